@@ -1,0 +1,1 @@
+// What every layer shares. So far its definitions alone: see specs/.
