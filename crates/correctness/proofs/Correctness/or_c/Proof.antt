@@ -1,0 +1,48 @@
+use Rattle.correctness.specs.Rules.{orC}
+use Rattle.correctness.proofs.Checks.{fails, holds, both-is, refuses, passes, same-is}
+use borrow.Author.Tests.{not-true, not-false}
+use mathlib.Core.Path.{refl}
+use borrow.Author.Needs.{needs}
+use Rattle.correctness.proofs.Correctness.or_c.Statement.{statement}
+use Rattle.correctness.proofs.Correctness.or_c.Tie as tie
+
+returns : tie.Need-returns
+unfolding orC
+returns c = refuses _ _ (not-true (c .before .before .args .left .dissatisfiable) (c .if1 .taken))
+
+returns-2 : tie.Need-returns-2
+unfolding orC
+returns-2 c = passes _ _ (not-false (c .before .before .before .before .args .left .dissatisfiable) (c .before .before .if1 .left)) (refuses _ _ (not-true (c .before .before .before .before .args .left .unit) (c .if2 .taken)))
+
+is-b-requires : tie.Need-is-b-requires
+is-b-requires c κs = search needs
+
+is-v-requires : tie.Need-is-v-requires
+is-v-requires c κs = search needs
+
+both-requires : tie.Need-both-requires
+both-requires c κs = search needs
+
+returns-3 : tie.Need-returns-3
+unfolding orC
+returns-3 c = passes _ _ (not-false (c .before .before .before .before .before .before .before .before .args .left .dissatisfiable) (c .before .before .before .before .before .before .if1 .left)) (passes _ _ (not-false (c .before .before .before .before .before .before .before .before .args .left .unit) (c .before .before .before .before .if2 .left)) (refuses _ _ (fails (c .if3 .taken) (both-is (c .before .both .ensures) (c .before .before .before .is-b .ensures) (c .before .before .is-v .ensures)))))
+
+or-else-requires : tie.Need-or-else-requires
+or-else-requires c κs = search needs
+
+returns-4 : tie.Need-returns-4
+unfolding orC
+returns-4 c = passes _ _ (not-false (c .before .before .before .before .before .before .before .before .before .args .left .dissatisfiable) (c .before .before .before .before .before .before .before .if1 .left)) (passes _ _ (not-false (c .before .before .before .before .before .before .before .before .before .args .left .unit) (c .before .before .before .before .before .if2 .left)) (passes _ _ (holds (c .before .if3 .left) (both-is (c .before .before .both .ensures) (c .before .before .before .before .is-b .ensures) (c .before .before .before .is-v .ensures))) (same-is _ (c .or-else .ensures) refl refl)))
+
+pub or-c-spec : {M : Type 1} → statement M
+or-c-spec =
+    tie.close
+    (tie.spec
+    returns
+    returns-2
+    is-b-requires
+    is-v-requires
+    both-requires
+    returns-3
+    or-else-requires
+    returns-4)

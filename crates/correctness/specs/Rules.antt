@@ -1,0 +1,213 @@
+-- The type rules of 01's section "Types", which are those of types/correctness.rs: each a chain of checks in its order, with the reason of the first that fails.
+use mathlib.Core.Bool.{Bool, true, false, _&&_, _||_, not}
+use mathlib.Core.List.{List, [], _∷_}
+use mathlib.Core.Option.{Option, none, some}
+use Prim.Native.Nat.{ℕ, _+_}
+use lib.Dec.{eqb}
+use Rattle.tables.specs.Choose.{pick}
+use Rattle.correctness.specs.declared.Base.{Base}
+use Rattle.correctness.specs.declared.Base.the-variants.{B, K, «V», W}
+use Rattle.correctness.specs.declared.Input.{Input}
+use Rattle.correctness.specs.declared.Input.the-variants.{Zero, One, Any, OneNonZero, AnyNonZero}
+use Rattle.correctness.specs.declared.Correctness.{Correctness}
+use Rattle.correctness.specs.declared.ErrorKind.{ErrorKind}
+use Rattle.correctness.specs.declared.ErrorKind.the-variants.{ChildBase1, ChildBase2, SwapNonOne, NonZeroDupIf, NonZeroZero, LeftNotDissatisfiable, RightNotDissatisfiable, LeftNotUnit, ThresholdBase, ThresholdNonUnit, ThresholdDissat, ChildBase3}
+use Rattle.correctness.specs.declared.Typed.{Typed}
+use Rattle.correctness.specs.declared.Typed.the-variants.{Is, Not}
+use Rattle.correctness.specs.declared.Leaf.{Leaf}
+use Rattle.correctness.specs.declared.Leaf.the-variants as leaf
+use Rattle.correctness.specs.Numbers.{baseNumber, inputNumber}
+use Rattle.correctness.specs.Tests.{isB, isK, isV, isW, equalBKV, isZero, takesOne, topNonZero}
+
+-- The input of a node from those of its children
+
+abbrev pub ifZero : Input → Input → Input → Input
+ifZero Zero x y = x
+ifZero One x y = y
+ifZero Any x y = y
+ifZero OneNonZero x y = y
+ifZero AnyNonZero x y = y
+
+-- and_v and and_b: Zero leaves the other as it is; after a first item anything more makes many
+abbrev pub andInput : Input → Input → Input
+andInput Zero b = b
+andInput One b = ifZero b One Any
+andInput Any b = Any
+andInput OneNonZero b = ifZero b OneNonZero AnyNonZero
+andInput AnyNonZero b = AnyNonZero
+
+-- how many items are taken, whatever the top one is
+abbrev pub countOnly : Input → Input
+countOnly Zero = Zero
+countOnly One = One
+countOnly Any = Any
+countOnly OneNonZero = One
+countOnly AnyNonZero = Any
+
+-- or_d and or_c
+abbrev pub orElseInput : Input → Input → Input
+orElseInput a b = ifZero b (countOnly a) Any
+
+-- or_b, and the children of a thresh one after the other
+abbrev pub orInput : Input → Input → Input
+orInput a b = ifZero a (countOnly b) (orElseInput a b)
+
+-- or_i
+abbrev pub eitherInput : Input → Input → Input
+eitherInput a b = pick (isZero a && isZero b) One Any
+
+-- and_or: "Zero if all Zero, One if X Zero and both others One or OneNonZero, or X One or OneNonZero and both others Zero, else Any"
+abbrev pub andOrInput : Input → Input → Input → Input
+andOrInput x y z =
+    pick (isZero y && isZero z) (countOnly x)
+    (pick (isZero x && (takesOne y && takesOne z)) One Any)
+
+-- Answers
+
+-- a check that fails refuses with its reason
+abbrev pub check : Bool → ErrorKind → Typed → Typed
+check true e t = t
+check false e t = Not e
+
+abbrev pub is : Base → Input → Bool → Bool → Typed
+is b i d u = Is (record { base = b; input = i; dissatisfiable = d; unit = u })
+
+-- the type, where there is one
+abbrev pub given : Typed → Option Correctness
+given (Is c) = some c
+given (Not e) = none
+
+-- what a further rule makes of an answer: a refusal stays as it is
+abbrev pub onward : Typed → (Correctness → Typed) → Typed
+onward (Is c) rule = rule c
+onward (Not e) rule = Not e
+
+-- "Leaf types are constants of the correctness type, as base-input-d-u"
+
+abbrev pub leafType : Leaf → Correctness
+leafType leaf.True = record { base = B; input = Zero; dissatisfiable = false; unit = true }
+leafType leaf.False = record { base = B; input = Zero; dissatisfiable = true; unit = true }
+leafType leaf.PkK = record { base = K; input = OneNonZero; dissatisfiable = true; unit = true }
+leafType leaf.RawPkH = record { base = K; input = AnyNonZero; dissatisfiable = true; unit = true }
+leafType leaf.Time = record { base = B; input = Zero; dissatisfiable = false; unit = false }
+leafType leaf.Hash = record { base = B; input = OneNonZero; dissatisfiable = true; unit = true }
+leafType leaf.Multi = record { base = B; input = AnyNonZero; dissatisfiable = true; unit = true }
+leafType leaf.MultiA = record { base = B; input = Any; dissatisfiable = true; unit = true }
+
+-- Casts
+
+unfoldable pub castAlt : Correctness → Typed
+castAlt c = check (isB (c .base)) ChildBase1 (is W Any (c .dissatisfiable) (c .unit))
+
+unfoldable pub castSwap : Correctness → Typed
+castSwap c =
+    check (isB (c .base)) ChildBase1
+    (check (takesOne (c .input)) SwapNonOne (is W Any (c .dissatisfiable) (c .unit)))
+
+unfoldable pub castCheck : Correctness → Typed
+castCheck c = check (isK (c .base)) ChildBase1 (is B (c .input) (c .dissatisfiable) true)
+
+unfoldable pub castDupif : Correctness → Typed
+castDupif c =
+    check (isV (c .base)) ChildBase1
+    (check (isZero (c .input)) NonZeroDupIf (is B OneNonZero true false))
+
+unfoldable pub castVerify : Correctness → Typed
+castVerify c = check (isB (c .base)) ChildBase1 (is «V» (c .input) false false)
+
+unfoldable pub castNonzero : Correctness → Typed
+castNonzero c =
+    check (topNonZero (c .input)) NonZeroZero
+    (check (isB (c .base)) ChildBase1 (is B (c .input) true (c .unit)))
+
+unfoldable pub castZeronotequal : Correctness → Typed
+castZeronotequal c = check (isB (c .base)) ChildBase1 (is B (c .input) (c .dissatisfiable) true)
+
+unfoldable pub castTrue : Correctness → Typed
+castTrue c = check (isV (c .base)) ChildBase1 (is B (c .input) false true)
+
+unfoldable pub castOrIFalse : Correctness → Typed
+castOrIFalse c = check (isB (c .base)) ChildBase1 (is B (ifZero (c .input) One Any) true (c .unit))
+
+-- Combinations
+
+unfoldable pub andB : Correctness → Correctness → Typed
+andB x y =
+    check (isB (x .base) && isW (y .base)) ChildBase2
+    (is B (andInput (x .input) (y .input)) (x .dissatisfiable && y .dissatisfiable) true)
+
+unfoldable pub andV : Correctness → Correctness → Typed
+andV x y =
+    check (isV (x .base) && not (isW (y .base))) ChildBase2
+    (is (y .base) (andInput (x .input) (y .input)) false (y .unit))
+
+unfoldable pub orB : Correctness → Correctness → Typed
+orB x z =
+    check (x .dissatisfiable) LeftNotDissatisfiable
+    (check (z .dissatisfiable) RightNotDissatisfiable
+    (check (isB (x .base) && isW (z .base)) ChildBase2
+    (is B (orInput (x .input) (z .input)) true true)))
+
+unfoldable pub orD : Correctness → Correctness → Typed
+orD x z =
+    check (x .dissatisfiable) LeftNotDissatisfiable
+    (check (x .unit) LeftNotUnit
+    (check (isB (x .base) && isB (z .base)) ChildBase2
+    (is B (orElseInput (x .input) (z .input)) (z .dissatisfiable) (z .unit))))
+
+unfoldable pub orC : Correctness → Correctness → Typed
+orC x z =
+    check (x .dissatisfiable) LeftNotDissatisfiable
+    (check (x .unit) LeftNotUnit
+    (check (isB (x .base) && isV (z .base)) ChildBase2
+    (is «V» (orElseInput (x .input) (z .input)) false false)))
+
+unfoldable pub orI : Correctness → Correctness → Typed
+orI x z =
+    check (equalBKV (x .base) (z .base)) ChildBase2
+    (is (x .base) (eitherInput (x .input) (z .input)) (x .dissatisfiable || z .dissatisfiable) (x .unit && z .unit))
+
+unfoldable pub andOr : Correctness → Correctness → Correctness → Typed
+andOr x y z =
+    check (x .dissatisfiable) LeftNotDissatisfiable
+    (check (x .unit) LeftNotUnit
+    (check (isB (x .base) && equalBKV (y .base) (z .base)) ChildBase3
+    (is (y .base) (andOrInput (x .input) (y .input) (z .input)) (z .dissatisfiable) (y .unit && z .unit))))
+
+-- The threshold, child by child: `earlier` is the type of a thresh of the children before this one
+
+-- a thresh of no child yet
+abbrev pub noChildren : Correctness
+noChildren = record { base = B; input = Zero; dissatisfiable = true; unit = true }
+
+-- "A thresh child is tested for base, unit, dissatisfiable": the first is a B, each other a W
+unfoldable pub thresholdChild : ℕ → Correctness → Correctness → Typed
+thresholdChild i earlier c =
+    check (pick (eqb i 0) (isB (c .base)) (isW (c .base))) ThresholdBase
+    (check (c .unit) ThresholdNonUnit
+    (check (c .dissatisfiable) ThresholdDissat
+    (is B (orInput (earlier .input) (c .input)) true true)))
+
+-- the children from number i on
+abbrev pub thresholdFrom : ℕ → Correctness → List Correctness → Typed
+thresholdFrom i earlier [] = Is earlier
+thresholdFrom i earlier (c ∷ cs) = onward (thresholdChild i earlier c) (λ next. thresholdFrom (i + 1) next cs)
+
+unfoldable pub threshold : List Correctness → Typed
+threshold cs = thresholdFrom 0 noChildren cs
+
+-- Subtypes
+
+-- OneNonZero is a subtype of all but Zero; every input is one of itself and of Any
+unfoldable pub isSubtypeInput : Input → Input → Bool
+isSubtypeInput a b =
+    pick (eqb (inputNumber a) (inputNumber b)) true
+    (pick (eqb (inputNumber b) (inputNumber Any)) true
+    (eqb (inputNumber a) (inputNumber OneNonZero) && not (isZero b)))
+
+-- a has whatever b has
+unfoldable pub isSubtype : Correctness → Correctness → Bool
+isSubtype a b =
+    eqb (baseNumber (a .base)) (baseNumber (b .base))
+    && (isSubtypeInput (a .input) (b .input)
+    && ((a .dissatisfiable || not (b .dissatisfiable)) && (a .unit || not (b .unit))))
