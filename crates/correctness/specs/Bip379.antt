@@ -2,10 +2,10 @@
 use mathlib.Core.Bool.{Bool, true, false, _&&_, _||_, not}
 use mathlib.Core.List.{List, [], _∷_}
 use mathlib.Core.Option.{Option, none, some}
-use Rattle.correctness.specs.declared.Base.{Base}
-use Rattle.correctness.specs.declared.Base.the-variants.{B, K, «V», W}
+use Rattle.base_input.specs.declared.Base.{Base}
+use Rattle.base_input.specs.declared.Base.the-variants.{B, K, «V», W}
 use Rattle.correctness.specs.declared.Correctness.{Correctness}
-use Rattle.correctness.specs.Tests.{isB, isK, isV, isW, equalBKV, isZero, takesOne, topNonZero}
+use Rattle.base_input.specs.Tests.{isB, isK, isV, isW, equalBKV, isZero, takesOne, topNonZero}
 use Rattle.correctness.specs.declared.Leaf.{Leaf}
 use Rattle.correctness.specs.declared.Leaf.the-variants as leaf
 

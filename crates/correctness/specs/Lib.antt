@@ -1,6 +1,5 @@
--- The correctness types: 01's numbers, the rules of correctness.rs, BIP 379's type table, and the laws that tie them.
-pub mod Numbers
-pub mod Tests
+-- The correctness types: the reasons of a refusal, the rules of correctness.rs, its sanity checks, BIP 379's type table, and the laws that tie them.
+pub mod Reasons
 pub mod Rules
 pub mod Sanity
 pub mod Bip379

@@ -5,10 +5,10 @@ use mathlib.Core.Option.{Option, none, some}
 use Prim.Native.Nat.{ℕ, _+_}
 use lib.Dec.{eqb}
 use Rattle.tables.specs.Choose.{pick}
-use Rattle.correctness.specs.declared.Base.{Base}
-use Rattle.correctness.specs.declared.Base.the-variants.{B, K, «V», W}
-use Rattle.correctness.specs.declared.Input.{Input}
-use Rattle.correctness.specs.declared.Input.the-variants.{Zero, One, Any, OneNonZero, AnyNonZero}
+use Rattle.base_input.specs.declared.Base.{Base}
+use Rattle.base_input.specs.declared.Base.the-variants.{B, K, «V», W}
+use Rattle.base_input.specs.declared.Input.{Input}
+use Rattle.base_input.specs.declared.Input.the-variants.{Zero, One, Any, OneNonZero, AnyNonZero}
 use Rattle.correctness.specs.declared.Correctness.{Correctness}
 use Rattle.correctness.specs.declared.ErrorKind.{ErrorKind}
 use Rattle.correctness.specs.declared.ErrorKind.the-variants.{ChildBase1, ChildBase2, SwapNonOne, NonZeroDupIf, NonZeroZero, LeftNotDissatisfiable, RightNotDissatisfiable, LeftNotUnit, ThresholdBase, ThresholdNonUnit, ThresholdDissat, ChildBase3}
@@ -16,51 +16,9 @@ use Rattle.correctness.specs.declared.Typed.{Typed}
 use Rattle.correctness.specs.declared.Typed.the-variants.{Is, Not}
 use Rattle.correctness.specs.declared.Leaf.{Leaf}
 use Rattle.correctness.specs.declared.Leaf.the-variants as leaf
-use Rattle.correctness.specs.Numbers.{baseNumber, inputNumber}
-use Rattle.correctness.specs.Tests.{isB, isK, isV, isW, equalBKV, isZero, takesOne, topNonZero}
-
--- The input of a node from those of its children
-
-abbrev pub ifZero : Input → Input → Input → Input
-ifZero Zero x y = x
-ifZero One x y = y
-ifZero Any x y = y
-ifZero OneNonZero x y = y
-ifZero AnyNonZero x y = y
-
--- and_v and and_b: Zero leaves the other as it is; after a first item anything more makes many
-abbrev pub andInput : Input → Input → Input
-andInput Zero b = b
-andInput One b = ifZero b One Any
-andInput Any b = Any
-andInput OneNonZero b = ifZero b OneNonZero AnyNonZero
-andInput AnyNonZero b = AnyNonZero
-
--- how many items are taken, whatever the top one is
-abbrev pub countOnly : Input → Input
-countOnly Zero = Zero
-countOnly One = One
-countOnly Any = Any
-countOnly OneNonZero = One
-countOnly AnyNonZero = Any
-
--- or_d and or_c
-abbrev pub orElseInput : Input → Input → Input
-orElseInput a b = ifZero b (countOnly a) Any
-
--- or_b, and the children of a thresh one after the other
-abbrev pub orInput : Input → Input → Input
-orInput a b = ifZero a (countOnly b) (orElseInput a b)
-
--- or_i
-abbrev pub eitherInput : Input → Input → Input
-eitherInput a b = pick (isZero a && isZero b) One Any
-
--- and_or: "Zero if all Zero, One if X Zero and both others One or OneNonZero, or X One or OneNonZero and both others Zero, else Any"
-abbrev pub andOrInput : Input → Input → Input → Input
-andOrInput x y z =
-    pick (isZero y && isZero z) (countOnly x)
-    (pick (isZero x && (takesOne y && takesOne z)) One Any)
+use Rattle.base_input.specs.Numbers.{baseNumber}
+use Rattle.base_input.specs.Inputs.{ifZero, andInput, orElseInput, orInput, eitherInput, andOrInput, isSubtypeInput}
+use Rattle.base_input.specs.Tests.{isB, isK, isV, isW, equalBKV, isZero, takesOne, topNonZero}
 
 -- Answers
 
@@ -197,13 +155,6 @@ unfoldable pub threshold : List Correctness → Typed
 threshold cs = thresholdFrom 0 noChildren cs
 
 -- Subtypes
-
--- OneNonZero is a subtype of all but Zero; every input is one of itself and of Any
-unfoldable pub isSubtypeInput : Input → Input → Bool
-isSubtypeInput a b =
-    pick (eqb (inputNumber a) (inputNumber b)) true
-    (pick (eqb (inputNumber b) (inputNumber Any)) true
-    (eqb (inputNumber a) (inputNumber OneNonZero) && not (isZero b)))
 
 -- a has whatever b has
 unfoldable pub isSubtype : Correctness → Correctness → Bool

@@ -1,13 +1,13 @@
 -- The sanity checks of types/correctness.rs: what holds of every type that the rules give; and that a K is never Zero.
 use mathlib.Core.Bool.{Bool, true, _&&_, not}
 use mathlib.Core.Path.{_≡_}
-use Rattle.correctness.specs.declared.Base.{Base}
-use Rattle.correctness.specs.declared.Base.the-variants.{B, K, «V», W}
-use Rattle.correctness.specs.declared.Input.{Input}
+use Rattle.base_input.specs.declared.Base.{Base}
+use Rattle.base_input.specs.declared.Base.the-variants.{B, K, «V», W}
+use Rattle.base_input.specs.declared.Input.{Input}
 use Rattle.correctness.specs.declared.Correctness.{Correctness}
 use Rattle.correctness.specs.declared.Typed.{Typed}
 use Rattle.correctness.specs.declared.Typed.the-variants.{Is, Not}
-use Rattle.correctness.specs.Tests.{isZero, topNonZero}
+use Rattle.base_input.specs.Tests.{isZero, topNonZero}
 
 -- K is unit and takes at least one item; V is neither unit nor dissatisfiable; W is never OneNonZero or AnyNonZero
 abbrev pub sane : Base → Input → Bool → Bool → Bool

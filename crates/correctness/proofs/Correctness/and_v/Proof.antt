@@ -1,5 +1,6 @@
 use Rattle.correctness.specs.Rules.{andV}
-use Rattle.correctness.proofs.Checks.{fails, holds, both-is, not-is, refuses, passes, same-is}
+use Rattle.correctness.proofs.Checks.{refuses, passes, same-is}
+use Rattle.base_input.proofs.Chosen.{fails, holds, both-is, not-is}
 use mathlib.Core.Path.{refl}
 use borrow.Author.Needs.{needs}
 use Rattle.correctness.proofs.Correctness.and_v.Statement.{statement}

@@ -1,5 +1,6 @@
 use Rattle.correctness.specs.Rules.{castOrIFalse}
-use Rattle.correctness.proofs.Checks.{fails, holds, refuses, passes, same-is, either-zero}
+use Rattle.correctness.proofs.Checks.{refuses, passes, same-is}
+use Rattle.base_input.proofs.Chosen.{fails, holds, either-zero}
 use mathlib.Core.Path.{refl, _∙_}
 use borrow.Author.Needs.{needs}
 use Rattle.correctness.proofs.Correctness.cast_or_i_false.Statement.{statement}

@@ -1,5 +1,6 @@
 use Rattle.correctness.specs.Rules.{castZeronotequal}
-use Rattle.correctness.proofs.Checks.{fails, holds, refuses, passes}
+use Rattle.correctness.proofs.Checks.{refuses, passes}
+use Rattle.base_input.proofs.Chosen.{fails, holds}
 use mathlib.Core.Path.{refl}
 use borrow.Author.Needs.{needs}
 use Rattle.correctness.proofs.Correctness.cast_zeronotequal.Statement.{statement}

@@ -1,5 +1,5 @@
 use Rattle.correctness.specs.Rules.{isSubtype}
-use Rattle.correctness.proofs.Checks.{both-is, eqb-is}
+use Rattle.base_input.proofs.Chosen.{both-is, eqb-is}
 use borrow.Author.Needs.{needs}
 use Rattle.correctness.proofs.Correctness.is_subtype.Statement.{statement}
 use Rattle.correctness.proofs.Correctness.is_subtype.Tie as tie

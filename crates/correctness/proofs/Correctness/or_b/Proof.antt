@@ -1,5 +1,6 @@
 use Rattle.correctness.specs.Rules.{orB}
-use Rattle.correctness.proofs.Checks.{fails, holds, both-is, refuses, passes, same-is}
+use Rattle.correctness.proofs.Checks.{refuses, passes, same-is}
+use Rattle.base_input.proofs.Chosen.{fails, holds, both-is}
 use borrow.Author.Tests.{not-true, not-false}
 use mathlib.Core.Path.{refl}
 use borrow.Author.Needs.{needs}

@@ -1,5 +1,6 @@
 use Rattle.correctness.specs.Rules.{orI}
-use Rattle.correctness.proofs.Checks.{fails, holds, refuses, passes, same-is}
+use Rattle.correctness.proofs.Checks.{refuses, passes, same-is}
+use Rattle.base_input.proofs.Chosen.{fails, holds}
 use borrow.Author.Needs.{needs}
 use Rattle.correctness.proofs.Correctness.or_i.Statement.{statement}
 use Rattle.correctness.proofs.Correctness.or_i.Tie as tie

@@ -1,8 +1,8 @@
-use Rattle.correctness.proofs.Checks.{both-is, picks, skips}
+use Rattle.base_input.proofs.Chosen.{both-is, picks, skips}
 use mathlib.Core.Path.{refl, sym, _∙_}
 use borrow.Author.Needs.{needs}
-use Rattle.correctness.proofs.Input.either.Statement.{statement}
-use Rattle.correctness.proofs.Input.either.Tie as tie
+use Rattle.base_input.proofs.Input.either.Statement.{statement}
+use Rattle.base_input.proofs.Input.either.Tie as tie
 
 is-zero-requires : tie.Need-is-zero-requires
 is-zero-requires c κs = search needs

@@ -1,8 +1,8 @@
-use Rattle.correctness.proofs.Checks.{or-else-is}
+use Rattle.base_input.proofs.Chosen.{or-else-is}
 use mathlib.Core.Path.{refl}
 use borrow.Author.Needs.{needs}
-use Rattle.correctness.proofs.Input.or.Statement.{statement}
-use Rattle.correctness.proofs.Input.or.Tie as tie
+use Rattle.base_input.proofs.Input.or.Statement.{statement}
+use Rattle.base_input.proofs.Input.or.Tie as tie
 
 enum-told : tie.Need-enum-told
 enum-told c = search needs

@@ -1,9 +1,9 @@
-use Rattle.correctness.specs.Rules.{isSubtypeInput}
-use Rattle.correctness.proofs.Checks.{both-is, not-is, picks, skips, equal-numbers, unequal-numbers, eqb-is}
+use Rattle.base_input.specs.Inputs.{isSubtypeInput}
+use Rattle.base_input.proofs.Chosen.{both-is, not-is, picks, skips, equal-numbers, unequal-numbers, eqb-is}
 use mathlib.Core.Path.{refl}
 use borrow.Author.Needs.{needs}
-use Rattle.correctness.proofs.Input.is_subtype.Statement.{statement}
-use Rattle.correctness.proofs.Input.is_subtype.Tie as tie
+use Rattle.base_input.proofs.Input.is_subtype.Statement.{statement}
+use Rattle.base_input.proofs.Input.is_subtype.Tie as tie
 
 number-requires : tie.Need-number-requires
 number-requires c κs = search needs

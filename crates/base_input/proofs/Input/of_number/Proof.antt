@@ -1,9 +1,9 @@
-use Rattle.correctness.specs.Numbers.{inputOf}
-use Rattle.correctness.proofs.Checks.{picks, skips}
+use Rattle.base_input.specs.Numbers.{inputOf}
+use Rattle.base_input.proofs.Chosen.{picks, skips}
 use borrow.Author.Tests.{eq-eqb, ne-eqb}
 use mathlib.Core.Path.{refl}
-use Rattle.correctness.proofs.Input.of_number.Statement.{statement}
-use Rattle.correctness.proofs.Input.of_number.Tie as tie
+use Rattle.base_input.proofs.Input.of_number.Statement.{statement}
+use Rattle.base_input.proofs.Input.of_number.Tie as tie
 
 returns : tie.Need-returns
 unfolding inputOf

@@ -1,9 +1,9 @@
-use Rattle.correctness.proofs.Checks.{picks, skips}
+use Rattle.base_input.proofs.Chosen.{picks, skips}
 use borrow.Author.Tests.{eq-eqb, ne-eqb}
 use mathlib.Core.Path.{refl, _∙_}
 use borrow.Author.Needs.{needs}
-use Rattle.correctness.proofs.Base.fits_threshold.Statement.{statement}
-use Rattle.correctness.proofs.Base.fits_threshold.Tie as tie
+use Rattle.base_input.proofs.Base.fits_threshold.Statement.{statement}
+use Rattle.base_input.proofs.Base.fits_threshold.Tie as tie
 
 is-b-requires : tie.Need-is-b-requires
 is-b-requires c κs = search needs

@@ -1,9 +1,9 @@
 -- Tests on bases and inputs, in which the rules of 01 and the rows of BIP 379 are both written.
 use mathlib.Core.Bool.{Bool, true, false}
-use Rattle.correctness.specs.declared.Base.{Base}
-use Rattle.correctness.specs.declared.Base.the-variants.{B, K, «V», W}
-use Rattle.correctness.specs.declared.Input.{Input}
-use Rattle.correctness.specs.declared.Input.the-variants.{Zero, One, Any, OneNonZero, AnyNonZero}
+use Rattle.base_input.specs.declared.Base.{Base}
+use Rattle.base_input.specs.declared.Base.the-variants.{B, K, «V», W}
+use Rattle.base_input.specs.declared.Input.{Input}
+use Rattle.base_input.specs.declared.Input.the-variants.{Zero, One, Any, OneNonZero, AnyNonZero}
 
 abbrev pub isB : Base → Bool
 isB B = true
