@@ -1,2 +1,3 @@
--- What every layer shares: choosing by a Bool.
+-- What every layer shares: choosing by a Bool, and what a lent table holds.
 pub mod Choose
+pub mod Tables

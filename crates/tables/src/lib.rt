@@ -1,1 +1,26 @@
-// What every layer shares. So far its definitions alone: see specs/.
+// What every layer shares: the definitions in specs/, their laws in proofs/, and clearing a lent table.
+ghost use mathlib.Core.Path.{_≡_};
+ghost use lib.ListN.{length};
+ghost use Rattle.tables.specs.Tables.{zeros};
+
+// Zeros throughout, in a table of 32-bit numbers. A plain loop, which the compiler turns into one fill.
+pub fn clear(t: &mut [u32])
+    ensures { λ _. ⌜ now (t .exit) ≡ zeros (length (now (t .entry))) ⌝ }
+{
+    let mut i = 0;
+    while i < t.len() {
+        t[i] = 0;
+        i += 1;
+    }
+}
+
+// Zeros throughout, in a work table, whose entries are 64-bit numbers.
+pub fn clear_work(work: &mut [u64])
+    ensures { λ _. ⌜ now (work .exit) ≡ zeros (length (now (work .entry))) ⌝ }
+{
+    let mut i = 0;
+    while i < work.len() {
+        work[i] = 0;
+        i += 1;
+    }
+}

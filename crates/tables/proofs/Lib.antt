@@ -1,0 +1,5 @@
+-- Laws of lent tables.
+pub mod PutLaws
+pub mod FlatLaws
+pub mod NewestLaws
+pub mod ClearLaws
