@@ -27,8 +27,12 @@ abbrev pub check : Bool → ErrorKind → Typed → Typed
 check true e t = t
 check false e t = Not e
 
+-- a type from its parts, in 01's order base-input-d-u
+abbrev pub made : Base → Input → Bool → Bool → Correctness
+made b i d u = record { base = b; input = i; dissatisfiable = d; unit = u }
+
 abbrev pub is : Base → Input → Bool → Bool → Typed
-is b i d u = Is (record { base = b; input = i; dissatisfiable = d; unit = u })
+is b i d u = Is (made b i d u)
 
 -- the type, where there is one
 abbrev pub given : Typed → Option Correctness
@@ -43,14 +47,14 @@ onward (Not e) rule = Not e
 -- "Leaf types are constants of the correctness type, as base-input-d-u"
 
 abbrev pub leafType : Leaf → Correctness
-leafType leaf.True = record { base = B; input = Zero; dissatisfiable = false; unit = true }
-leafType leaf.False = record { base = B; input = Zero; dissatisfiable = true; unit = true }
-leafType leaf.PkK = record { base = K; input = OneNonZero; dissatisfiable = true; unit = true }
-leafType leaf.RawPkH = record { base = K; input = AnyNonZero; dissatisfiable = true; unit = true }
-leafType leaf.Time = record { base = B; input = Zero; dissatisfiable = false; unit = false }
-leafType leaf.Hash = record { base = B; input = OneNonZero; dissatisfiable = true; unit = true }
-leafType leaf.Multi = record { base = B; input = AnyNonZero; dissatisfiable = true; unit = true }
-leafType leaf.MultiA = record { base = B; input = Any; dissatisfiable = true; unit = true }
+leafType leaf.True = made B Zero false true
+leafType leaf.False = made B Zero true true
+leafType leaf.PkK = made K OneNonZero true true
+leafType leaf.RawPkH = made K AnyNonZero true true
+leafType leaf.Time = made B Zero false false
+leafType leaf.Hash = made B OneNonZero true true
+leafType leaf.Multi = made B AnyNonZero true true
+leafType leaf.MultiA = made B Any true true
 
 -- Casts
 
@@ -136,7 +140,7 @@ andOr x y z =
 
 -- a thresh of no child yet
 abbrev pub noChildren : Correctness
-noChildren = record { base = B; input = Zero; dissatisfiable = true; unit = true }
+noChildren = made B Zero true true
 
 -- "A thresh child is tested for base, unit, dissatisfiable": the first is a B, each other a W
 unfoldable pub thresholdChild : ℕ → Correctness → Correctness → Typed

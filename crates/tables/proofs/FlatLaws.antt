@@ -1,12 +1,12 @@
 -- Tables that are only appended to: entries of one width at the front, zeros behind. Each law is stated once, over the width w. Assumes nothing.
 -- Why: an entry more is written where the zeros begin, and takes the place of w of them.
-use mathlib.Core.Path.{_≡_, refl, sym, ap, subst, _∙_}
+use mathlib.Core.Path.{_≡_, refl, sym, ap, _∙_}
 use mathlib.Core.List.{List, [], _∷_, _++_, append-assoc, append-nil, map}
 use Prim.Native.Nat.{ℕ, zero, suc, _+_, _-_, _*_, _≤_, _<_}
-use native.Mathlib.Nat.{mul-zero, mul-suc, mul-add, mul-one, zero-add, mul-le-mul-left}
+use native.Mathlib.Nat.{mul-zero, mul-suc, mul-add, mul-one}
 use native.Mathlib.Omega.{arith}
-use lib.ListN.{length, getD, take, drop, replicate, length-append, length-replicate, length-map, drop-of-length-le, length-drop, List·getD-append}
-use lib.Seq.{take-at, drop-at, drop-append-add, getD-append-add, take-nil}
+use lib.ListN.{length, getD, drop, length-append, length-replicate, List·getD-append}
+use lib.Seq.{take-at, drop-append-add, getD-append-add}
 use Rattle.tables.specs.Tables.{zeros, flat, Strided, putAt}
 use Rattle.tables.proofs.PutLaws.{put-parts}
 

@@ -3,3 +3,4 @@ pub mod PutLaws
 pub mod FlatLaws
 pub mod NewestLaws
 pub mod ClearLaws
+pub mod BoolLaws

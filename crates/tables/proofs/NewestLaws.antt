@@ -1,7 +1,7 @@
 -- Entries read off a table by index, the newest first: what a push, a pop and a table that changed elsewhere make of the list. Assumes nothing.
 -- Why: the list of the first n entries depends on their readings alone, so what lies at or above n never matters.
-use mathlib.Core.Path.{_≡_, refl, sym, ap, _∙_}
-use mathlib.Core.List.{List, [], _∷_, _++_}
+use mathlib.Core.Path.{_≡_, refl, ap, _∙_}
+use mathlib.Core.List.{List, _∷_}
 use Prim.Native.Nat.{ℕ, zero, suc, _+_, _-_, _≤_, _<_}
 use native.Mathlib.Numerals.{add-one}
 use native.Mathlib.Omega.{arith}

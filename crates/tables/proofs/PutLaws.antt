@@ -1,14 +1,14 @@
 -- Numbers written into a table: the length stays, the cells written hold them, the others are kept. Assumes nothing.
 -- Why: writing a list is a run of stores (`sets`), and each store changes one cell.
-use mathlib.Core.Path.{_≡_, refl, sym, ap, _∙_}
+use mathlib.Core.Path.{_≡_, refl, ap, _∙_}
 use mathlib.Core.List.{List, [], _∷_, _++_, append-nil}
 use mathlib.Core.Logic.{_≢_, _⊎_, inl, inr}
 use Prim.Native.Nat.{ℕ, zero, suc, _+_, _-_, _≤_, _<_}
-use native.Mathlib.Nat.{add-zero, add-suc}
+use native.Mathlib.Nat.{add-suc}
 use native.Mathlib.Numerals.{add-one}
 use native.Mathlib.Omega.{arith}
-use lib.ListN.{length, getD, set, take, drop, replicate, length-set, length-append, drop-of-length-le, getD-replicate, List·getD-append, List·getD-eq-default}
-use lib.Seq.{sets, length-sets, sets-eq, getD-set-other, getD-append-add, length-take-le, take-at}
+use lib.ListN.{length, getD, set, take, drop, length-append, drop-of-length-le, List·getD-append}
+use lib.Seq.{sets, length-sets, sets-eq, getD-set-other, getD-append-add, length-take-le}
 use Rattle.tables.specs.Tables.{zeros, putNext, putAt}
 
 -- the run of stores that writing is
