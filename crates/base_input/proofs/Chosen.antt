@@ -41,13 +41,6 @@ picks x y h = ap (λ (c : Bool). pick c x y) (sym h)
 pub skips : {A : Type 0} {b : Bool} (x : A) {z : A} (y : A) → b ≡ false → z ≡ y → z ≡ pick b x y
 skips x y h g = g ∙ ap (λ (c : Bool). pick c x y) (sym h)
 
-pub either-zero : (i : Input) → eitherInput i Zero ≡ ifZero i One Any
-either-zero Zero = refl
-either-zero One = refl
-either-zero Any = refl
-either-zero OneNonZero = refl
-either-zero AnyNonZero = refl
-
 -- an input that isn't Zero: or_b's rule is or_d's
 pub or-else-is : (k a b : Input) {r : Input} → a ≡ k → orInput k b ≡ orElseInput k b → r ≡ orElseInput a b → r ≡ orInput a b
 or-else-is k a b e h g = g ∙ ap (λ (x : Input). orElseInput x b) e ∙ sym h ∙ ap (λ (x : Input). orInput x b) (sym e)

@@ -1,4 +1,7 @@
--- Bases and inputs: 01's numbers, tests, and the input rules of correctness.rs.
+-- Bases and inputs. Definitions: 01's numbers, tests, the input rules of correctness.rs. Theorems: the files named Laws.
 pub mod Numbers
 pub mod Tests
 pub mod Inputs
+pub mod NumberLaws
+pub mod InputLaws
+pub mod LetterLaws

@@ -1,6 +1,7 @@
 use Rattle.correctness.specs.Rules.{castOrIFalse}
 use Rattle.correctness.proofs.Checks.{refuses, passes, same-is}
-use Rattle.base_input.proofs.Chosen.{fails, holds, either-zero}
+use Rattle.base_input.proofs.Chosen.{fails, holds}
+use Rattle.base_input.specs.InputLaws.{either-zero}
 use mathlib.Core.Path.{refl, _∙_}
 use borrow.Author.Needs.{needs}
 use Rattle.correctness.proofs.Correctness.cast_or_i_false.Statement.{statement}

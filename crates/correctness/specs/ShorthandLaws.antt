@@ -7,8 +7,8 @@ use Rattle.base_input.specs.declared.Base.the-variants.{B, K, «V», W}
 use Rattle.base_input.specs.declared.Input.{Input}
 use Rattle.base_input.specs.declared.Input.the-variants.{Zero, One, Any, OneNonZero, AnyNonZero}
 use Rattle.base_input.specs.Inputs.{ifZero, eitherInput}
-use Rattle.base_input.proofs.InputLaws.{and-zero}
-use Rattle.base_input.proofs.Chosen.{either-zero}
+use Rattle.base_input.specs.InputLaws.{and-zero}
+use Rattle.base_input.specs.InputLaws.{either-zero}
 use Rattle.correctness.specs.declared.Correctness.{Correctness}
 use Rattle.correctness.specs.declared.Leaf.the-variants as leaf
 use Rattle.correctness.specs.Rules.{made, is, given, leafType, castTrue, castOrIFalse, andV, orI}

@@ -13,7 +13,7 @@ use Rattle.base_input.specs.declared.Input.{Input}
 use Rattle.base_input.specs.declared.Input.the-variants.{Zero, One, Any}
 use Rattle.base_input.specs.Tests.{isB, isK, isV, isW, equalBKV, isZero, takesOne, topNonZero}
 use Rattle.base_input.specs.Inputs.{andInput, eitherInput, andOrInput}
-use Rattle.base_input.proofs.InputLaws.{and-zero-right}
+use Rattle.base_input.specs.InputLaws.{and-zero-right}
 use Rattle.correctness.specs.declared.Correctness.{Correctness}
 use Rattle.correctness.specs.declared.ErrorKind.{ErrorKind}
 use Rattle.correctness.specs.declared.Leaf.{Leaf}

@@ -4,7 +4,7 @@ use mathlib.Core.Bool.{true, false}
 use Rattle.base_input.specs.declared.Input.{Input}
 use Rattle.base_input.specs.declared.Input.the-variants.{Zero, One, Any, OneNonZero, AnyNonZero}
 use Rattle.base_input.specs.Tests.{isZero}
-use Rattle.base_input.specs.Inputs.{ifZero, andInput, isSubtypeInput}
+use Rattle.base_input.specs.Inputs.{ifZero, andInput, eitherInput, isSubtypeInput}
 
 pub zero-and : (i : Input) → andInput Zero i ≡ i
 zero-and i = refl
@@ -62,3 +62,11 @@ input-subtype-of-itself One = refl
 input-subtype-of-itself Any = refl
 input-subtype-of-itself OneNonZero = refl
 input-subtype-of-itself AnyNonZero = refl
+
+-- or_i beside a 0
+pub either-zero : (i : Input) → eitherInput i Zero ≡ ifZero i One Any
+either-zero Zero = refl
+either-zero One = refl
+either-zero Any = refl
+either-zero OneNonZero = refl
+either-zero AnyNonZero = refl

@@ -16,7 +16,7 @@ use Rattle.base_input.specs.declared.Input.{Input}
 use Rattle.base_input.specs.declared.Input.the-variants.{Zero, One, Any, OneNonZero, AnyNonZero}
 use Rattle.base_input.specs.Tests.{isB, isK, isV, isW, equalBKV, isZero, takesOne, topNonZero}
 use Rattle.base_input.specs.Inputs.{andInput, orElseInput, orInput, eitherInput, andOrInput}
-use Rattle.base_input.proofs.LetterLaws.{InputLetters, inputLetters, and-letters, or-letters, or-else-letters, either-letters, and-or-letters}
+use Rattle.base_input.specs.LetterLaws.{InputLetters, inputLetters, and-letters, or-letters, or-else-letters, either-letters, and-or-letters}
 use Rattle.correctness.specs.declared.Correctness.{Correctness}
 use Rattle.correctness.specs.declared.ErrorKind.{ErrorKind}
 use Rattle.correctness.specs.declared.ErrorKind.the-variants.{ThresholdBase, ThresholdNonUnit, ThresholdDissat}
@@ -27,7 +27,7 @@ use Rattle.correctness.specs.declared.Typed.the-variants.{Is}
 use Rattle.correctness.specs.Rules.{check, made, is, given, onward, leafType, castAlt, castSwap, castCheck, castDupif, castVerify, castNonzero, castZeronotequal, andB, andV, orB, orD, orC, orI, andOr, thresholdChild, thresholdFrom, threshold}
 use Rattle.correctness.specs.Sanity.{Sound}
 use Rattle.correctness.specs.Bip379.{Letters, row, requiring, leaf-row, andor-row, and-v-row, and-b-row, or-b-row, or-c-row, or-d-row, or-i-row, all-z, all-z-but-one-o, all-Wdu, thresh-row, a-row, s-row, c-row, d-row, v-row, j-row, n-row, letters, letters-given}
-use Rattle.correctness.proofs.SanityLaws.{k-never-zero}
+use Rattle.correctness.specs.SanityLaws.{k-never-zero}
 
 -- An answer in letters
 abbrev answered : Typed → Option Letters

@@ -10,7 +10,7 @@ use Rattle.base_input.specs.declared.Base.the-variants.{B, K, «V», W}
 use Rattle.base_input.specs.declared.Input.{Input}
 use Rattle.base_input.specs.Tests.{isB, isK, isV, isW}
 use Rattle.base_input.specs.Inputs.{andInput}
-use Rattle.base_input.proofs.InputLaws.{and-associates}
+use Rattle.base_input.specs.InputLaws.{and-associates}
 use Rattle.correctness.specs.declared.Correctness.{Correctness}
 use Rattle.correctness.specs.declared.ErrorKind.{ErrorKind}
 use Rattle.correctness.specs.declared.ErrorKind.the-variants.{ChildBase1}
