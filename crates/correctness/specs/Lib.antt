@@ -7,3 +7,4 @@ pub mod AndVLaws
 pub mod ShorthandLaws
 pub mod SanityLaws
 pub mod Bip379Laws
+pub mod SubtypeLaws
