@@ -1,0 +1,151 @@
+-- Worked examples, computed on the definitions: document 01, "Scripts to try at the counter", the twelve before the bar as one table; a script that would need unit under d:; and a refusal by each small table.
+use mathlib.Core.Path.{_≡_, refl}
+use mathlib.Core.List.{List, [], _∷_, _++_, map}
+use Prim.Native.Nat.{ℕ, zero, suc, _+_, _*_}
+use lib.ListN.{length, getD, drop, replicate}
+use Rattle.correctness.specs.Rules.{castAlt, castSwap, castCheck, castDupif, castVerify, castNonzero, castZeronotequal, andB, andV, orB, orD, orC, orI, andOr, thresholdChild, threshold}
+use Rattle.lex.specs.Token.{dataLength, lexeme}
+use Rattle.lex.specs.Number.{minimal, numberOf}
+use Rattle.lex.specs.Opcode.{ranged}
+use Rattle.lex.specs.Push.{small, pushed, hasOpcode, pushOf, sizedOf}
+use Rattle.lex.specs.Instruction.{verifyRefused, instructionOf}
+use Rattle.lex.specs.Script.{scriptLimit, lexOf}
+use Rattle.standard.specs.Machine.{decode}
+use Rattle.standard.specs.Outcome.{Lengths, Outcome, outcomeOf, ampleFor}
+
+-- what is told of a script: the answer's seven numbers, and each node's kind and type (base, input, d, u as four digits)
+pub record Told : Type 0 where
+  pub number : ℕ
+  pub reason : ℕ
+  pub place : ℕ
+  pub tokens : ℕ
+  pub steps : ℕ
+  pub nodes : ℕ
+  pub keys : ℕ
+  pub kinds : List ℕ
+  pub types : List ℕ
+
+abbrev pub kindsIn : ℕ → List ℕ → List ℕ
+kindsIn zero table = []
+kindsIn (suc n) table = getD table 0 0 ∷ kindsIn n (drop 9 table)
+
+abbrev pub typesIn : ℕ → List ℕ → List ℕ
+typesIn zero table = []
+typesIn (suc n) table = (1000 * getD table 5 0 + 100 * getD table 6 0 + 10 * getD table 7 0 + getD table 8 0) ∷ typesIn n (drop 9 table)
+
+abbrev pub toldOf : Outcome → Told
+toldOf o =
+    record {
+      number = o .answer .number;
+      reason = o .answer .reason;
+      place = o .answer .place;
+      tokens = o .answer .tokens;
+      steps = o .answer .steps;
+      nodes = o .answer .nodes;
+      keys = o .answer .keys;
+      kinds = kindsIn (o .answer .nodes) (o .nodes);
+      types = typesIn (o .answer .nodes) (o .nodes);
+    }
+
+-- kind 0, ample tables
+abbrev pub read : List ℕ → Told
+read script = toldOf (outcomeOf 0 script (ampleFor (length script)))
+
+abbrev pub tree : ℕ → ℕ → List ℕ → List ℕ → Told
+tree tokens steps kinds types = record { number = 0; reason = 0; place = 0; tokens = tokens; steps = steps; nodes = length kinds; keys = 0; kinds = kinds; types = types }
+
+abbrev pub no : ℕ → ℕ → ℕ → ℕ → ℕ → Told
+no number reason place tokens steps = record { number = number; reason = reason; place = place; tokens = tokens; steps = steps; nodes = 0; keys = 0; kinds = []; types = [] }
+
+pub record Example : Type 0 where
+  pub script : List ℕ
+  pub told : Told
+
+abbrev pub example : List ℕ → Told → Example
+example script told = record { script = script; told = told }
+
+-- a tree with its tokens, steps, kinds and types; or a refusal's number, reason, place, tokens and steps
+abbrev pub twelve : List Example
+twelve =
+    example [] (no 9 0 0 0 1)
+    ∷ example (0x51 ∷ []) (tree 1 2 (1 ∷ []) (1101 ∷ []))
+    ∷ example (0x51 ∷ 0x69 ∷ 0x51 ∷ []) (tree 3 6 (1 ∷ 1 ∷ 16 ∷ 19 ∷ []) (1101 ∷ 1101 ∷ 3100 ∷ 1101 ∷ []))
+    ∷ example (0x51 ∷ 0x69 ∷ 0x51 ∷ 0x69 ∷ 0x51 ∷ []) (tree 5 12 (1 ∷ 1 ∷ 16 ∷ 1 ∷ 16 ∷ 19 ∷ 19 ∷ []) (1101 ∷ 1101 ∷ 3100 ∷ 1101 ∷ 3100 ∷ 3100 ∷ 1101 ∷ []))
+    ∷ example (0x63 ∷ 0x51 ∷ 0x67 ∷ 0x00 ∷ 0x68 ∷ []) (tree 5 8 (2 ∷ 1 ∷ 25 ∷ []) (1111 ∷ 1101 ∷ 1211 ∷ []))
+    ∷ example (0x51 ∷ 0x7c ∷ 0x51 ∷ 0x9b ∷ []) (no 14 3 1 4 5)
+    ∷ example (0x00 ∷ 0x51 ∷ 0x87 ∷ []) (tree 3 5 (2 ∷ 26 ∷ []) (1111 ∷ 1111 ∷ []))
+    ∷ example (0x00 ∷ 0x52 ∷ 0x87 ∷ []) (no 13 0 0 3 4)
+    ∷ example (0x63 ∷ 0x51 ∷ []) (no 18 0 0 2 2)
+    ∷ example (0x87 ∷ 0x69 ∷ []) (no 7 0 1 0 0)
+    ∷ example (0x00 ∷ 0xb2 ∷ []) (no 12 0 0 2 1)
+    ∷ example (0x76 ∷ 0x63 ∷ 0x51 ∷ 0x69 ∷ 0x68 ∷ []) (tree 5 8 (1 ∷ 16 ∷ 15 ∷ []) (1101 ∷ 3100 ∷ 1410 ∷ []))
+    ∷ []
+
+pub twelve-told : map (λ (e : Example). read (e .script)) twelve ≡ map (λ (e : Example). e .told) twelve
+unfolding outcomeOf decode lexOf scriptLimit instructionOf verifyRefused pushOf sizedOf pushed hasOpcode small minimal numberOf ranged lexeme dataLength castAlt castSwap castCheck castDupif castVerify castNonzero castZeronotequal andB andV orB orD orC orI andOr thresholdChild threshold
+twelve-told = refl
+
+-- `766351696873645168` is or_d of d:v:1 and 1: d: gives no unit, in either kind
+abbrev pub dupIfUnit : List ℕ
+dupIfUnit = 0x76 ∷ 0x63 ∷ 0x51 ∷ 0x69 ∷ 0x68 ∷ 0x73 ∷ 0x64 ∷ 0x51 ∷ 0x68 ∷ []
+
+pub no-unit-in-segwit : toldOf (outcomeOf 0 dupIfUnit (ampleFor 9)) ≡ no 14 8 0 9 13
+unfolding outcomeOf decode lexOf scriptLimit instructionOf verifyRefused pushOf sizedOf pushed hasOpcode small minimal numberOf ranged lexeme dataLength castAlt castSwap castCheck castDupif castVerify castNonzero castZeronotequal andB andV orB orD orC orI andOr thresholdChild threshold
+no-unit-in-segwit = refl
+
+pub no-unit-in-tapscript : toldOf (outcomeOf 1 dupIfUnit (ampleFor 9)) ≡ no 14 8 0 9 13
+unfolding outcomeOf decode lexOf scriptLimit instructionOf verifyRefused pushOf sizedOf pushed hasOpcode small minimal numberOf ranged lexeme dataLength castAlt castSwap castCheck castDupif castVerify castNonzero castZeronotequal andB andV orB orD orC orI andOr thresholdChild threshold
+no-unit-in-tapscript = refl
+
+-- a script kind that is neither 0 nor 1
+pub no-such-kind : toldOf (outcomeOf 2 (0x51 ∷ []) (ampleFor 1)) ≡ no 20 0 0 0 0
+unfolding outcomeOf
+no-such-kind = refl
+
+-- tables for so many tokens, nodes, keys and work entries
+abbrev pub tables : ℕ → ℕ → ℕ → ℕ → Lengths
+tables tokens nodes keys work = record { tokens = 3 * tokens; nodes = 9 * nodes; keys = keys; work = work }
+
+-- the script of document 01's listing
+abbrev pub orOfTwo : List ℕ
+orOfTwo = 0x63 ∷ 0x51 ∷ 0x67 ∷ 0x00 ∷ 0x68 ∷ []
+
+-- no room for the last token: 8
+pub small-tokens : toldOf (outcomeOf 0 orOfTwo (tables 4 12 5 82)) ≡ no 8 0 4 0 0
+unfolding outcomeOf decode lexOf scriptLimit instructionOf verifyRefused pushOf sizedOf pushed hasOpcode small minimal numberOf ranged lexeme dataLength castAlt castSwap castCheck castDupif castVerify castNonzero castZeronotequal andB andV orB orD orC orI andOr thresholdChild threshold
+small-tokens = refl
+
+-- no room for the third node, or_i, which is made when IF is taken: 15
+pub small-nodes : toldOf (outcomeOf 0 orOfTwo (tables 5 2 0 4)) ≡ no 15 0 0 5 7
+unfolding outcomeOf decode lexOf scriptLimit instructionOf verifyRefused pushOf sizedOf pushed hasOpcode small minimal numberOf ranged lexeme dataLength castAlt castSwap castCheck castDupif castVerify castNonzero castZeronotequal andB andV orB orD orC orI andOr thresholdChild threshold
+small-nodes = refl
+
+-- no room for the three entries of ENDIF over MaybeAndV: 17
+pub small-work : toldOf (outcomeOf 0 orOfTwo (tables 5 3 0 3)) ≡ no 17 0 4 5 1
+unfolding outcomeOf decode lexOf scriptLimit instructionOf verifyRefused pushOf sizedOf pushed hasOpcode small minimal numberOf ranged lexeme dataLength castAlt castSwap castCheck castDupif castVerify castNonzero castZeronotequal andB andV orB orD orC orI andOr thresholdChild threshold
+small-work = refl
+
+-- no room for the two entries at the start: 17, at place 0
+pub small-start : toldOf (outcomeOf 0 orOfTwo (tables 5 3 0 1)) ≡ no 17 0 0 5 0
+unfolding outcomeOf decode lexOf scriptLimit instructionOf verifyRefused pushOf sizedOf pushed hasOpcode small minimal numberOf ranged lexeme dataLength castAlt castSwap castCheck castDupif castVerify castNonzero castZeronotequal andB andV orB orD orC orI andOr thresholdChild threshold
+small-start = refl
+
+-- multi of one key
+abbrev pub oneOfOne : List ℕ
+oneOfOne = 0x51 ∷ 0x21 ∷ 0x02 ∷ (replicate 32 0 ++ (0x51 ∷ 0xae ∷ []))
+
+-- no room for its key, nor for its node: 16, at its k
+pub small-keys : toldOf (outcomeOf 0 oneOfOne (tables 4 0 0 2)) ≡ no 16 0 0 4 1
+unfolding outcomeOf decode lexOf scriptLimit instructionOf verifyRefused pushOf sizedOf pushed hasOpcode small minimal numberOf ranged lexeme dataLength castAlt castSwap castCheck castDupif castVerify castNonzero castZeronotequal andB andV orB orD orC orI andOr thresholdChild threshold
+small-keys = refl
+
+-- with just enough room everywhere: the node, and the key's offset
+pub just-enough : outcomeOf 0 oneOfOne (tables 4 1 1 2) ≡ record {
+  answer = record { number = 0; reason = 0; place = 0; tokens = 4; steps = 2; nodes = 1; keys = 1 };
+  tokens = 28 ∷ 1 ∷ 0 ∷ 31 ∷ 0 ∷ 1 ∷ 28 ∷ 1 ∷ 35 ∷ 8 ∷ 0 ∷ 36 ∷ [];
+  nodes = 27 ∷ 1 ∷ 1 ∷ 0 ∷ 1 ∷ 1 ∷ 5 ∷ 1 ∷ 1 ∷ [];
+  keys = 2 ∷ [];
+  work = 0 ∷ 0 ∷ [];
+}
+unfolding outcomeOf decode lexOf scriptLimit instructionOf verifyRefused pushOf sizedOf pushed hasOpcode small minimal numberOf ranged lexeme dataLength castAlt castSwap castCheck castDupif castVerify castNonzero castZeronotequal andB andV orB orD orC orI andOr thresholdChild threshold
+just-enough = refl
