@@ -3,6 +3,8 @@
 //! Nothing here decides anything about a script but its length (01's number 1) and its kind (20). The rest is a table from the
 //! crate's errors to 01's numbers, and a walk over the tree.
 
+pub mod generate;
+
 use std::panic::{catch_unwind, AssertUnwindSafe};
 
 use bitcoin::hashes::Hash as _;
