@@ -4,6 +4,7 @@
 //! crate's errors to 01's numbers, and a walk over the tree.
 
 pub mod generate;
+pub mod ours;
 
 use std::panic::{catch_unwind, AssertUnwindSafe};
 
