@@ -5,6 +5,7 @@
 
 pub mod generate;
 pub mod ours;
+pub mod sample;
 
 use std::panic::{catch_unwind, AssertUnwindSafe};
 
@@ -243,6 +244,47 @@ fn digits(ty: &Type) -> String {
         Input::AnyNonZero => 5,
     };
     format!("{base}{input}{}{}", ty.corr.dissatisfiable as u8, ty.corr.unit as u8)
+}
+
+/// An accepted script's listing in 01's own form, places and key offsets and all. The crate knows no places; but a tree's keys and hashes
+/// are just the pushes of 20, 32 and 33 bytes of its script, in their order, so 01's text settles them.
+pub fn placed(listing: &str, script: &[u8]) -> String {
+    let mut pushes = Vec::new();
+    let mut at = 0;
+    while at < script.len() {
+        let n = if script[at] <= 75 { script[at] as usize } else { 0 };
+        if matches!(n, 20 | 32 | 33) {
+            pushes.push(at + 1);
+        }
+        at += 1 + n;
+    }
+    // Last node first: taking the pushes from the front then walks the script forwards.
+    let nodes: Vec<&str> = listing.lines().skip(1).collect();
+    let mut next = 0;
+    let mut held: Vec<&[usize]> = Vec::new();
+    for line in nodes.iter().rev() {
+        let data = line.split(' ').nth(6).map_or(0, |data| data.split(',').count());
+        held.push(&pushes[next..next + data]);
+        next += data;
+    }
+    assert_eq!(next, pushes.len(), "each push belongs to one node");
+    let mut text = listing.lines().next().unwrap_or_default().replace("--------", "00000000") + "\n";
+    let mut keys = String::new();
+    for (line, offsets) in nodes.iter().zip(held.iter().rev()) {
+        let place = match (&line[..2], offsets.first()) {
+            ("1b" | "1c", Some(_)) => {
+                let first = keys.lines().count();
+                offsets.iter().for_each(|offset| keys.push_str(&format!("{offset:08x}\n")));
+                first
+            }
+            (_, Some(offset)) => *offset,
+            (_, None) => 0,
+        };
+        let bare: Vec<&str> = line.split(' ').take(6).collect();
+        text.push_str(&bare.join(" ").replace("--------", &format!("{place:08x}")));
+        text.push('\n');
+    }
+    text + &keys
 }
 
 pub fn hex_into(out: &mut String, bytes: &[u8]) {

@@ -1,7 +1,7 @@
 //! Two answers held beside each other: a listing as document 01 has it is the oracle's listing once its places are looked up, and a
 //! listing that differs anywhere but in a place is seen to differ.
 
-use oracle::{hex, judge, ours, unhex, with_room};
+use oracle::{hex, judge, ours, placed, unhex, with_room};
 
 /// 01's own example, to the letter.
 const EXAMPLE: &str = "\
@@ -80,4 +80,12 @@ fn the_encoders_bytes_count() {
     let ours = ours::read(&mut text.as_bytes(), 0, &script, true).unwrap();
     assert_ne!(ours.encoded, Some(hex(&theirs.encoded)));
     assert_eq!(theirs.encoded, script);
+}
+
+/// And the other way: the oracle's listing, with the places that 01 settles, is 01's.
+#[test]
+fn the_oracles_listing_with_places_is_01s() {
+    for (script, listing) in [(unhex(b"6351670068").unwrap(), EXAMPLE), (script(), LISTING)] {
+        assert_eq!(placed(&with_room(|| judge(0, &script)).listing, &script), listing);
+    }
 }
