@@ -37,6 +37,8 @@ pub struct Answer {
     pub encoded: Vec<u8>,
     /// One bit for each kind of node in the tree.
     pub kinds: u32,
+    /// The most entries that the work list had at once.
+    pub most_work: usize,
 }
 
 pub fn judge(kind: u8, script: &[u8]) -> Answer {
@@ -57,7 +59,7 @@ pub fn judge_line(line: &[u8]) -> Answer {
 }
 
 fn refusal(number: u8, reason: u8, tokens: usize, steps: u64) -> Answer {
-    Answer { number, reason, listing: header(number, reason, tokens, steps, 0, 0), encoded: Vec::new(), kinds: 0 }
+    Answer { number, reason, listing: header(number, reason, tokens, steps, 0, 0), encoded: Vec::new(), kinds: 0, most_work: alloc::take_most() }
 }
 
 fn header(number: u8, reason: u8, tokens: usize, steps: u64, nodes: usize, keys: usize) -> String {
@@ -68,7 +70,9 @@ fn judge_as<Ctx: ScriptContext>(script: &[u8]) -> Answer
 where
     Ctx::Key: ToPublicKey + Bytes,
 {
+    // What a panic may have left behind.
     alloc::take_steps();
+    alloc::take_most();
     let outcome = catch_unwind(AssertUnwindSafe(|| {
         let (tokens, answer) = read::<Ctx>(script);
         let steps = alloc::take_steps();
@@ -175,7 +179,7 @@ where
     let encoded = top.encode().as_bytes().to_vec();
     let mut listing = header(0, 0, tokens, steps, order.len(), keys);
     listing.push_str(&lines);
-    Answer { number: 0, reason: 0, listing, encoded, kinds }
+    Answer { number: 0, reason: 0, listing, encoded, kinds, most_work: alloc::take_most() }
 }
 
 /// In script order: and_or's third stands before its second.

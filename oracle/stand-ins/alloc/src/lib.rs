@@ -4,7 +4,7 @@
 //! as supplied, so the `Vec` that it sees does the counting. It is the standard `Vec` in a wrapper: every method but `pop` is the
 //! standard one, reached through `Deref`, and `pop` is the standard one with a counter beside it.
 //!
-//! What rests on it: the step counts of the oracle. A verdict or a tree doesn't, unless the wrapper were to lose or invent an
+//! What rests on it: the step counts of the oracle, and the length of the work list in one test. A verdict or a tree doesn't, unless the wrapper were to lose or invent an
 //! element, and it has no code that could.
 
 use std::cell::Cell;
@@ -13,10 +13,15 @@ pub use std::string;
 
 thread_local! {
     static STEPS: Cell<u64> = const { Cell::new(0) };
+    static MOST: Cell<usize> = const { Cell::new(0) };
 }
 
 /// Entries taken off a work list since the last call, in this thread; starts again at 0.
 pub fn take_steps() -> u64 { STEPS.with(|s| s.replace(0)) }
+
+/// The most entries that a work list had at once since the last call, in this thread; starts again at 0. It is looked at before each
+/// entry is taken off, and decode.rs takes one off before it enters more.
+pub fn take_most() -> usize { MOST.with(|m| m.replace(0)) }
 
 pub mod vec {
     use core::fmt;
@@ -38,11 +43,11 @@ pub mod vec {
         /// type is private to decode.rs, so its name is all there is to go by. A `pop` that finds the list empty takes nothing off.
         #[inline]
         pub fn pop(&mut self) -> Option<T> {
-            let taken = self.0.pop();
-            if taken.is_some() && core::any::type_name::<T>().ends_with("::decode::NonTerm") {
+            if !self.0.is_empty() && core::any::type_name::<T>().ends_with("::decode::NonTerm") {
                 super::STEPS.with(|s| s.set(s.get() + 1));
+                super::MOST.with(|m| m.set(m.get().max(self.0.len())));
             }
-            taken
+            self.0.pop()
         }
     }
 
