@@ -668,8 +668,8 @@ fn ill_typed(stock: &Stock, random: &mut Random) -> Vec<u8> {
     scratch.by_base[0].pop().map(|piece| piece.script).unwrap_or_default()
 }
 
-/// Where each instruction starts, as far as the bytes go.
-fn starts(script: &[u8]) -> Vec<usize> {
+/// Where each instruction starts, as far as the bytes go, and the script's end.
+pub fn starts(script: &[u8]) -> Vec<usize> {
     let mut found = Vec::new();
     let mut i = 0;
     while i < script.len() {

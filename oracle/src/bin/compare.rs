@@ -7,8 +7,8 @@ use std::process::{Command, ExitCode, Stdio};
 use std::sync::mpsc;
 use std::time::{Duration, Instant};
 
-use oracle::generate::{Case, Plan};
-use oracle::{hex, judge, ours, with_room};
+use oracle::generate::{starts, Case, Plan};
+use oracle::{hex, judge, ours, with_room, Answer};
 
 /// What a generator's scripts came to.
 #[derive(Default)]
@@ -18,11 +18,83 @@ struct Count {
     different: u64,
 }
 
-/// The shortest script of its sort that the two sides differ on, and what they said.
+/// What the two sides said, where it isn't the same.
+#[derive(Clone)]
 struct Difference {
-    case: Case,
     crate_says: String,
     ours_says: String,
+}
+
+impl Difference {
+    fn between(theirs: &Answer, answer: ours::Ours, encodes: bool) -> Option<Difference> {
+        let wanted = (encodes && theirs.number == 0).then(|| hex(&theirs.encoded));
+        if answer.listing.as_ref() == Ok(&theirs.listing) && answer.encoded == wanted {
+            return None;
+        }
+        let said = |listing: &str, encoded: Option<String>| match encoded {
+            Some(encoded) => format!("{listing}= {encoded}\n"),
+            None => listing.to_string(),
+        };
+        let ours_says = match answer.listing {
+            Ok(text) => said(&text, answer.encoded),
+            Err(e) => format!("{e}\n"),
+        };
+        Some(Difference { crate_says: said(&theirs.listing, wanted), ours_says })
+    }
+
+    /// Of one sort are differences with the same number and reason on either side.
+    fn sort(&self) -> (String, String) {
+        let start = |said: &str| said.chars().take(5).collect();
+        (start(&self.crate_says), start(&self.ours_says))
+    }
+}
+
+/// Puts a few scripts to both sides. None where they agree or the reader has stopped answering.
+fn ask(reader: &str, cases: &[Case], encodes: bool) -> Vec<Option<Difference>> {
+    let spawned = Command::new("sh").args(["-c", reader]).stdin(Stdio::piped()).stdout(Stdio::piped()).spawn();
+    let Ok(mut child) = spawned else { return vec![None; cases.len()] };
+    let mut input = BufWriter::new(child.stdin.take().unwrap());
+    let mut output = BufReader::new(child.stdout.take().unwrap());
+    let found = std::thread::scope(|s| {
+        s.spawn(move || cases.iter().try_for_each(|case| writeln!(input, "{:02x}{}", case.kind, hex(&case.script))));
+        let mut running = true;
+        let found = cases.iter().map(|case| {
+            let answer = if running { ours::read(&mut output, case.kind, &case.script, encodes) } else { return None };
+            running = answer.is_ok();
+            Difference::between(&judge(case.kind, &case.script), answer.ok()?, encodes)
+        });
+        let found = found.collect();
+        // Closed before the thread is waited for, in case the reader isn't done.
+        drop(output);
+        found
+    });
+    let _ = child.wait();
+    found
+}
+
+/// The shortest script with a difference of the same sort that leaving out instructions leads to: runs of them first, then single ones.
+fn shrunk(reader: &str, mut case: Case, mut difference: Difference, encodes: bool) -> (Case, Difference) {
+    loop {
+        let cuts = starts(&case.script);
+        let count = cuts.len() - 1;
+        let mut shorter = Vec::new();
+        let mut run = count;
+        // Long scripts lose long runs only, until they are short: else there would be too much to ask.
+        while run > count / 128 {
+            for first in (0..count).step_by(run) {
+                let end = cuts[(first + run).min(count)];
+                shorter.push(Case { script: [&case.script[..cuts[first]], &case.script[end..]].concat(), ..case.clone() });
+            }
+            run /= 2;
+        }
+        let answers = ask(reader, &shorter, encodes);
+        let same_sort = |answer: &Option<Difference>| answer.as_ref().is_some_and(|other| other.sort() == difference.sort());
+        let best = shorter.into_iter().zip(answers).filter(|(_, answer)| same_sort(answer)).min_by_key(|(other, _)| other.script.len());
+        match best {
+            Some((other, Some(answer))) => (case, difference) = (other, answer),
+            _ => return (case, difference),
+        }
+    }
 }
 
 fn main() -> ExitCode {
@@ -77,7 +149,7 @@ fn run(reader: &str, plan: Plan, encodes: bool, longest: usize) -> ExitCode {
     let mut by_answer: BTreeMap<(u8, u8), u64> = BTreeMap::new();
     let mut by_kind = [0u64; 29];
     let mut longest_accepted = 0;
-    let mut smallest: BTreeMap<(String, String), Difference> = BTreeMap::new();
+    let mut smallest: BTreeMap<(String, String), (Case, Difference)> = BTreeMap::new();
     let mut stopped = None;
 
     'all: for batch in receive {
@@ -100,25 +172,12 @@ fn run(reader: &str, plan: Plan, encodes: bool, longest: usize) -> ExitCode {
             } else {
                 count.refused += 1;
             }
-            let same_listing = matches!(&answer.listing, Ok(text) if *text == theirs.listing);
-            let wanted = (encodes && theirs.number == 0).then(|| hex(&theirs.encoded));
-            if !same_listing || answer.encoded != wanted {
+            if let Some(difference) = Difference::between(&theirs, answer, encodes) {
                 different += 1;
                 count.different += 1;
-                let said = |listing: &str, encoded: Option<String>| match encoded {
-                    Some(encoded) => format!("{listing}= {encoded}\n"),
-                    None => listing.to_string(),
-                };
-                let crate_says = said(&theirs.listing, wanted);
-                let ours_says = match answer.listing {
-                    Ok(text) => said(&text, answer.encoded),
-                    Err(e) => format!("{e}\n"),
-                };
-                // Of one sort: the same number and reason on either side.
-                let sort = (crate_says.chars().take(5).collect(), ours_says.chars().take(5).collect());
-                let shorter = smallest.get(&sort).is_none_or(|d| case.script.len() < d.case.script.len());
-                if shorter {
-                    smallest.insert(sort, Difference { case, crate_says, ours_says });
+                let sort = difference.sort();
+                if smallest.get(&sort).is_none_or(|(other, _)| case.script.len() < other.script.len()) {
+                    smallest.insert(sort, (case, difference));
                 }
             }
             if compared % 256 == 0 && shown.elapsed() > Duration::from_secs(if std::io::stderr().is_terminal() { 1 } else { 20 }) {
@@ -157,8 +216,8 @@ fn run(reader: &str, plan: Plan, encodes: bool, longest: usize) -> ExitCode {
         println!("{kind:<12} {scripts:>10}");
     }
     println!("\nlongest accepted script: {longest_accepted} bytes");
-    for difference in smallest.values() {
-        let Difference { case, crate_says, ours_says } = difference;
+    for (case, difference) in smallest.into_values() {
+        let (case, Difference { crate_says, ours_says }) = shrunk(reader, case, difference, encodes);
         println!("\ndifferent ({}): {:02x}{}\nthe crate's text says\n{crate_says}the reader says\n{ours_says}", case.generator, case.kind, hex(&case.script));
     }
     println!("\nencoder's bytes {}", if encodes { "compared too" } else { "not compared" });
