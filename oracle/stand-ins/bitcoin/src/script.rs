@@ -1,5 +1,8 @@
 //! Stands in for: `bitcoin::script`: `Script`, `instructions_minimal`, `read_scriptint` and `Builder`, as bitcoin 0.32 has them.
 //!
+//! That crate's source isn't supplied. What is written here is Bitcoin's minimal rule, which 01's "Bytes to tokens" spells out in the
+//! same order; the tests below go through its cases.
+//!
 //! What rests on it: how bytes fall into instructions, which pushes are refused as not minimal (document 01's 2 and 3), which
 //! number a push of up to four bytes is and which is refused (its 4 and 5, through lex.rs), and which bytes the encoder's calls
 //! write, the four fused VERIFY forms included. This is the stand-in with the most behaviour of its own.
@@ -30,7 +33,7 @@ pub struct PushBytes([u8]);
 
 impl PushBytes {
     fn of(bytes: &[u8]) -> &PushBytes {
-        // The attribute above makes the two the same in memory; bitcoin does it in this way too.
+        // The attribute above makes the two the same in memory.
         unsafe { &*(bytes as *const [u8] as *const PushBytes) }
     }
 

@@ -1,8 +1,7 @@
 //! Stands in for: src/iter/tree.rs of miniscript 13.2.0: a node's children by their number, and a walk over a tree.
 //!
-//! What rests on it: the order in which the oracle lists a tree's nodes goes through `as_node` of the supplied iter/mod.rs and the
-//! walk below. The decoder and the type rules don't use it; decode.rs compares and hashes whole trees with it, which the oracle
-//! doesn't do.
+//! What rests on it: nothing that the oracle answers. decode.rs compares and hashes whole trees with it, which the oracle doesn't
+//! do; the decoder, the type rules and the encoder don't use it, and the oracle lists nodes by a walk of its own, in script order.
 
 pub enum Tree<T, NT> {
     Nullary,

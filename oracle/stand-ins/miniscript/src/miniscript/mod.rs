@@ -2,9 +2,9 @@
 //! way from a script to one.
 //!
 //! What rests on it: that a node is typed by the supplied types/mod.rs and by nothing else, and that a script is lexed, decoded,
-//! then tested for tokens left over and for base B. The crate applies context checks to a node (scripts and keys that don't suit
-//! the kind of script), a depth of 402, and sanity checks to the whole; none of them is applied here. The crate tests for base B
-//! before tokens left over; here it is the other way round, which is document 01's order (18, then 19) and moves no verdict.
+//! then tested for tokens left over and for base B. The crate also applies context checks to nodes (keys and fragments that don't
+//! suit the kind of script, limits of size), a limit on a tree's depth, and sanity checks to the whole; none of them is applied here.
+//! Tokens left over are tested before base B: that is document 01's order (18, then 19), and no verdict depends on it.
 
 #[path = "../../../../crate-text/src/miniscript/astelem.rs"]
 pub mod astelem;
