@@ -1,0 +1,1 @@
+../../../../crate-text/src/iter/mod.rs
