@@ -9,13 +9,13 @@ use lib.Dec.{leb}
 use lib.ListN.{length, drop, length-append, length-map}
 use Rattle.tables.specs.Tables.{zeros, flat, Strided, putAt}
 use Rattle.tables.proofs.FlatLaws.{strided-map, table-length, append-entry}
-use Rattle.lex.specs.declared.Lexed.{Lexed}
-use Rattle.lex.specs.declared.Lexed.the-variants.{One, Two, Refused}
+use Rattle.instruction.specs.declared.Lexed.{Lexed}
+use Rattle.instruction.specs.declared.Lexed.the-variants.{One, Two, Refused}
 use Rattle.lex.specs.declared.Answer.{Answer}
 use Rattle.lex.specs.declared.Answer.the-variants as answer
 use Rattle.lex.specs.declared.Ample.{Ample}
 use Rattle.lex.specs.declared.Ample.the-variants as ample
-use Rattle.lex.specs.Instruction.{instructionOf}
+use Rattle.instruction.specs.Instruction.{instructionOf}
 use Rattle.lex.specs.Token.{Token, token, VERIFY}
 use Rattle.lex.specs.Script.{scriptLimit, Outcome, tokens, refused, instructions, lexOf, numbers, tableOf, answerOf, Fills, Lexes}
 use Rattle.lex.specs.Room.{sizesFor, roomFor, roomOf}
@@ -75,13 +75,13 @@ module _ (s : List ℕ) (size : ℕ) (table : List ℕ) (at n last : ℕ) (i : F
   pub fill-refused : (k : ℕ) {r : Answer} (after : List ℕ) → x ≡ Refused k → r ≡ answer.Refused k at → (r ≡ answerOf (lexOf (size / 3) s)) × Fills size (lexOf (size / 3) s) after
   fill-refused k after p q = let f = filled-refused s size k at after (i .short) (refuses s (size / 3) (i .ts) at last (i .scan) h x e k p) in (q ∙ f .0, f .1)
 
-  pub fill-full-one : (c v m : ℕ) {r : Answer} (after : List ℕ) → x ≡ One c v m → size / 3 - n < 1 → r ≡ answer.Refused 8 at → (r ≡ answerOf (lexOf (size / 3) s)) × Fills size (lexOf (size / 3) s) after
+  pub fill-full-one : (c v m : ℕ) {r : Answer} (after : List ℕ) → x ≡ One c m v → size / 3 - n < 1 → r ≡ answer.Refused 8 at → (r ≡ answerOf (lexOf (size / 3) s)) × Fills size (lexOf (size / 3) s) after
   fill-full-one c v m after p l q = let f = filled-refused s size 8 at after (i .short) (full-one s (size / 3) (i .ts) at last (i .scan) h x e c v m p (room-left 1 l)) in (q ∙ f .0, f .1)
 
   pub fill-full-two : (c m : ℕ) {r : Answer} (after : List ℕ) → x ≡ Two c m → size / 3 - n < 2 → r ≡ answer.Refused 8 at → (r ≡ answerOf (lexOf (size / 3) s)) × Fills size (lexOf (size / 3) s) after
   fill-full-two c m after p l q = let f = filled-refused s size 8 at after (i .short) (full-two s (size / 3) (i .ts) at last (i .scan) h x e c m p (room-left 2 l)) in (q ∙ f .0, f .1)
 
-  pub fill-one : (c v m : ℕ) (after : List ℕ) → x ≡ One c v m → 1 ≤ size / 3 - n → length after ≡ length table → after ≡ putAt table (3 * n) (numbers (token c v at)) → Filling s size after (at + m) (n + 1) c
+  pub fill-one : (c v m : ℕ) (after : List ℕ) → x ≡ One c m v → 1 ≤ size / 3 - n → length after ≡ length table → after ≡ putAt table (3 * n) (numbers (token c v at)) → Filling s size after (at + m) (n + 1) c
   fill-one c v m after p q l g =
       let d : length (i .ts) ≡ n = i .count in
       let w : length table ≡ size = i .whole in
@@ -189,7 +189,7 @@ module _ (s : List ℕ) (at n last : ℕ) (i : Counting s at n last) (h : at < l
   pub count-refused : (k : ℕ) {r : Ample} → x ≡ Refused k → r ≡ ample.Refused k at → r ≡ roomOf s
   count-refused k p q = q ∙ room-is s (refused k at) (i .short) (refuses s (2 * length s) (i .ts) at last (i .scan) h x e k p)
 
-  pub count-one : (c v m : ℕ) → x ≡ One c v m → (1 ≤ m) × (m ≤ length s - at) → Counting s (at + m) (n + 1) c
+  pub count-one : (c v m : ℕ) → x ≡ One c m v → (1 ≤ m) × (m ≤ length s - at) → Counting s (at + m) (n + 1) c
   count-one c v m p w =
       let d : length (i .ts) ≡ n = i .count in
       let f : n ≤ 2 * at = i .few in

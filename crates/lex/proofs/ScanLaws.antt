@@ -10,12 +10,12 @@ use lib.ListN.{length, drop, length-drop, length-append, drop-of-length-le}
 use lib.Seq.{drop-drop}
 use lib.Dec.{leb}
 use Rattle.tables.specs.Choose.{pick}
-use Rattle.lex.specs.declared.Lexed.{Lexed}
-use Rattle.lex.specs.declared.Lexed.the-variants.{One, Two, Refused}
-use Rattle.lex.specs.Instruction.{instructionOf}
+use Rattle.instruction.specs.declared.Lexed.{Lexed}
+use Rattle.instruction.specs.declared.Lexed.the-variants.{One, Two, Refused}
+use Rattle.instruction.specs.Instruction.{instructionOf}
 use Rattle.lex.specs.Token.{Token, token, VERIFY}
 use Rattle.lex.specs.Script.{scriptLimit, Outcome, tokens, refused, andThen, after, instructions, lexOf}
-use Rattle.lex.proofs.SizeLaws.{one-fits, two-fits}
+use Rattle.instruction.proofs.SizeLaws.{one-fits, two-fits}
 
 -- all that the proofs use of the limit
 pub limit-low : scriptLimit < 2147483648
@@ -96,13 +96,13 @@ module _ (s : List ℕ) (room : ℕ) (ts : List Token) (at last : ℕ) (i : Scan
   pub refuses : (k : ℕ) → x ≡ Refused k → instructions (length s) room 0 0 s ≡ refused k at
   refuses k p = stepped-by (Refused k) p ∙ with-refused ts k at
 
-  pub full-one : (c v m : ℕ) → x ≡ One c v m → room - length ts < 1 → instructions (length s) room 0 0 s ≡ refused 8 at
-  full-one c v m p q = stepped-by (One c v m) p ∙ simp (lt-leb 1 (room - length ts) q) (with-refused ts 8 at)
+  pub full-one : (c v m : ℕ) → x ≡ One c m v → room - length ts < 1 → instructions (length s) room 0 0 s ≡ refused 8 at
+  full-one c v m p q = stepped-by (One c m v) p ∙ simp (lt-leb 1 (room - length ts) q) (with-refused ts 8 at)
 
   pub full-two : (c m : ℕ) → x ≡ Two c m → room - length ts < 2 → instructions (length s) room 0 0 s ≡ refused 8 at
   full-two c m p q = stepped-by (Two c m) p ∙ simp (lt-leb 2 (room - length ts) q) (with-refused ts 8 at)
 
-  pub one-more : (c v m : ℕ) → x ≡ One c v m → 1 ≤ room - length ts → Scan s room (ts ++ (token c v at ∷ [])) (at + m) c
+  pub one-more : (c v m : ℕ) → x ≡ One c m v → 1 ≤ room - length ts → Scan s room (ts ++ (token c v at ∷ [])) (at + m) c
   unfolding onward
   one-more c v m p q =
       let w : (1 ≤ m) × (m ≤ length s - at) = one-fits s at last h e c v m p in
@@ -116,7 +116,7 @@ module _ (s : List ℕ) (room : ℕ) (ts : List Token) (at last : ℕ) (i : Scan
         enough = omega arith;
         few = omega arith;
         same =
-            stepped-by (One c v m) p
+            stepped-by (One c m v) p
             ∙ simp (le-leb 1 (room - length ts) q) (with-one ts (token c v at) (onward (room - length ts - 1) m c))
             ∙ ap (λ (k : ℕ). withTokens (ts ++ (token c v at ∷ [])) (instructions (i .most - 1) k (at + m) c (drop (at + m) s))) z;
       }

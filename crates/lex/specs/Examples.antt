@@ -3,10 +3,10 @@ use mathlib.Core.Path.{_≡_, refl}
 use mathlib.Core.List.{List, [], _∷_}
 use lib.ListN.{replicate}
 use Rattle.lex.specs.Token.{token, EQUAL, NUMEQUAL, CHECKSIG, CHECKMULTISIG, IF, ELSE, ENDIF, VERIFY, NUM, HASH20, BYTES32, BYTES33, BYTES65}
-use Rattle.lex.specs.Opcode.{ranged}
-use Rattle.lex.specs.Number.{minimal, numberOf}
-use Rattle.lex.specs.Push.{small, pushed, hasOpcode, pushOf, sizedOf}
-use Rattle.lex.specs.Instruction.{verifyRefused, instructionOf}
+use Rattle.instruction.specs.Opcode.{ranged}
+use Rattle.instruction.specs.Number.{minimal, numberOf}
+use Rattle.instruction.specs.Push.{small, pushed, hasOpcode, pushOf, sizedOf}
+use Rattle.instruction.specs.Instruction.{verifyRefused, instructionOf}
 use Rattle.lex.specs.Script.{scriptLimit, tokens, refused, lexOf, Lexes, answerOf, tableOf}
 
 -- `6351670068`

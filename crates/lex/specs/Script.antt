@@ -6,12 +6,12 @@ use lib.Dec.{leb}
 use lib.ListN.{length, drop}
 use Rattle.tables.specs.Choose.{pick}
 use Rattle.tables.specs.Tables.{zeros, flat}
-use Rattle.lex.specs.declared.Lexed.{Lexed}
-use Rattle.lex.specs.declared.Lexed.the-variants.{One, Two, Refused}
+use Rattle.instruction.specs.declared.Lexed.{Lexed}
+use Rattle.instruction.specs.declared.Lexed.the-variants.{One, Two, Refused}
 use Rattle.lex.specs.declared.Answer.{Answer}
 use Rattle.lex.specs.declared.Answer.the-variants as answer
 use Rattle.lex.specs.Token.{Token, token, VERIFY}
-use Rattle.lex.specs.Instruction.{instructionOf}
+use Rattle.instruction.specs.Instruction.{instructionOf}
 
 -- the most bytes that a script may have
 unfoldable pub scriptLimit : ℕ
@@ -28,7 +28,7 @@ andThen t (refused number place) = refused number place
 
 -- one instruction at `at`, with room for so many tokens more: 8 if its tokens don't all fit. onward is what follows it, by the room left, the instruction's size and the code of its last token
 abbrev pub after : ℕ → ℕ → Lexed → (ℕ → ℕ → ℕ → Outcome) → Outcome
-after room at (One code number size) onward = pick (leb 1 room) (andThen (token code number at) (onward (room - 1) size code)) (refused 8 at)
+after room at (One code size number) onward = pick (leb 1 room) (andThen (token code number at) (onward (room - 1) size code)) (refused 8 at)
 after room at (Two code size) onward =
     pick (leb 2 room) (andThen (token code 0 at) (andThen (token VERIFY 0 at) (onward (room - 2) size VERIFY))) (refused 8 at)
 after room at (Refused number) onward = refused number at

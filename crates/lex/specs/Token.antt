@@ -1,105 +1,10 @@
--- Tokens, their codes and what they push: from document 01, "Bytes to tokens" ("A token holds code, number and place of its instruction"). The codes are those of `Token`'s order in lex.rs.
+-- Tokens and what they push: document 01, "Bytes to tokens" ("A token holds code, number and place of its instruction"). The codes are passed on from the crate below.
 use mathlib.Core.List.{List}
-use Prim.Native.Nat.{ℕ, _+_}
+use Prim.Native.Nat.{ℕ, _+_, _*_}
 use lib.Dec.{eqb, leb}
-use lib.ListN.{take, drop}
+use lib.ListN.{take, drop, getD}
 use Rattle.tables.specs.Choose.{pick}
-
-abbrev pub BOOLAND : ℕ
-BOOLAND = 1
-
-abbrev pub BOOLOR : ℕ
-BOOLOR = 2
-
-abbrev pub ADD : ℕ
-ADD = 3
-
-abbrev pub EQUAL : ℕ
-EQUAL = 4
-
-abbrev pub NUMEQUAL : ℕ
-NUMEQUAL = 5
-
-abbrev pub CHECKSIG : ℕ
-CHECKSIG = 6
-
-abbrev pub CHECKSIGADD : ℕ
-CHECKSIGADD = 7
-
-abbrev pub CHECKMULTISIG : ℕ
-CHECKMULTISIG = 8
-
-abbrev pub CHECKSEQUENCEVERIFY : ℕ
-CHECKSEQUENCEVERIFY = 9
-
-abbrev pub CHECKLOCKTIMEVERIFY : ℕ
-CHECKLOCKTIMEVERIFY = 10
-
-abbrev pub FROMALTSTACK : ℕ
-FROMALTSTACK = 11
-
-abbrev pub TOALTSTACK : ℕ
-TOALTSTACK = 12
-
-abbrev pub DROP : ℕ
-DROP = 13
-
-abbrev pub DUP : ℕ
-DUP = 14
-
-abbrev pub IF : ℕ
-IF = 15
-
-abbrev pub IFDUP : ℕ
-IFDUP = 16
-
-abbrev pub NOTIF : ℕ
-NOTIF = 17
-
-abbrev pub ELSE : ℕ
-ELSE = 18
-
-abbrev pub ENDIF : ℕ
-ENDIF = 19
-
-abbrev pub ZERONOTEQUAL : ℕ
-ZERONOTEQUAL = 20
-
-abbrev pub SIZE : ℕ
-SIZE = 21
-
-abbrev pub SWAP : ℕ
-SWAP = 22
-
-abbrev pub VERIFY : ℕ
-VERIFY = 23
-
-abbrev pub RIPEMD160 : ℕ
-RIPEMD160 = 24
-
-abbrev pub HASH160 : ℕ
-HASH160 = 25
-
-abbrev pub SHA256 : ℕ
-SHA256 = 26
-
-abbrev pub HASH256 : ℕ
-HASH256 = 27
-
-abbrev pub NUM : ℕ
-NUM = 28
-
-abbrev pub HASH20 : ℕ
-HASH20 = 29
-
-abbrev pub BYTES32 : ℕ
-BYTES32 = 30
-
-abbrev pub BYTES33 : ℕ
-BYTES33 = 31
-
-abbrev pub BYTES65 : ℕ
-BYTES65 = 32
+pub use Rattle.instruction.specs.Code.{BOOLAND, BOOLOR, ADD, EQUAL, NUMEQUAL, CHECKSIG, CHECKSIGADD, CHECKMULTISIG, CHECKSEQUENCEVERIFY, CHECKLOCKTIMEVERIFY, FROMALTSTACK, TOALTSTACK, DROP, DUP, IF, IFDUP, NOTIF, ELSE, ENDIF, ZERONOTEQUAL, SIZE, SWAP, VERIFY, RIPEMD160, HASH160, SHA256, HASH256, NUM, HASH20, BYTES32, BYTES33, BYTES65, Bytes}
 
 -- a token: code, number (a Num's, else 0) and place of its instruction
 pub record Token : Type 0 where
@@ -109,6 +14,10 @@ pub record Token : Type 0 where
 
 abbrev pub token : ℕ → ℕ → ℕ → Token
 token c v p = record { code = c; number = v; place = p }
+
+-- entry i of a token table, three numbers a token
+abbrev pub readToken : List ℕ → ℕ → Token
+readToken table i = token (getD table (3 * i) 0) (getD table (3 * i + 1) 0) (getD table (3 * i + 2) 0)
 
 -- pushed data: where it starts in the script, and its bytes
 pub record Data : Type 0 where

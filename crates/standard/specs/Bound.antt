@@ -1,6 +1,6 @@
 -- Each step lowers three potentials, so steps, work entries, nodes and keys are bounded by the tokens.
 -- Steps: eight a token and one an entry, less four for an Expression that has a token to take, and less two for a MaybeAndV that will say yes. Nodes: those made, those that waiting entries will make without a token, and two a token, less one for an Expression on top that has a token to take. Keys: those of the finished trees, those held in the row, and one a push. Each case of the table is a closed test (`rows-cheap`).
-use mathlib.Core.Path.{_≡_, refl, sym, ap, _∙_}
+use mathlib.Core.Path.{_≡_, refl, sym}
 use mathlib.Core.Bool.{Bool, true, false, true≢false}
 use mathlib.Core.List.{List, [], _∷_, _++_}
 use Prim.Native.Nat.{ℕ, zero, suc, _+_, _*_, _-_, _≤_}
@@ -8,16 +8,15 @@ use native.Mathlib.Omega.{arith}
 use lib.Dec.{eqb, leb, leb·zero}
 use lib.ListN.{length, length-append}
 use borrow.Author.Tests.{leb-true}
-use Rattle.lex.specs.Token.{Data, Lexeme, op, num, push, BYTES32, BYTES33, BYTES65}
+use Rattle.lex.specs.Token.{Data, Lexeme, op, num, push, BYTES33, BYTES65}
 use Rattle.tables.specs.Choose.{pick}
-use Rattle.standard.specs.Tree.{Key, key, Leaf, MultiA, Wrapper, alt, swap, Combination, andV, orI, Tree, Trees, leaf, wrap, join, andOr, thresh, nil, _⊳_, size, sizes, leafKeys, keyCount, keyCounts}
+use Rattle.standard.specs.Tree.{key, MultiA, Wrapper, Combination, andV, Tree, Trees, leaf, wrap, join, andOr, thresh, nil, _⊳_, size, sizes, leafKeys, keyCount, keyCounts}
 use Rattle.standard.specs.Allowed.{multiKey, multiAKey, multiCount, multiAThreshold}
 use Rattle.standard.specs.Types.{Judged, passes, fails, judge}
 use Rattle.standard.specs.Table.{takeTrees}
 use Rattle.standard.specs.Rows.{NonTerm, Expression, WExpression, MaybeAndV, AndV, Alt, Swap, EndIf, EndIfNotIf, EndIfElse, Tern, Reduce1, Reduce2, ThreshW, ThreshE, Point, inExpression, inWExpression, inAlt, inSwap, inEndIf, inEndIfNotIf, inEndIfElse, inThreshW, afterVerify, afterVerifyEqual, afterEqual, afterCheckSequenceVerify, afterCheckLockTimeVerify, afterCheckMultiSig, afterNumEqual, afterVerifyEqualHash20, afterVerifyEqualHash20Hash160, afterEqualHash20, afterBytes32, lockVerify, lockEqual, lock32, lockSize, multiKeys, multiAKeys, afterCheckSigAdd, afterCheckSig, afterIf, afterIfZeroNotEqual}
-use Rattle.standard.specs.Rows.{Act, readOn, enter, putBack, make, reduce1, reduce2, refuse, Case, opcode, number, anyNumber, pushed, other, fits, look, cases, actAt, isAndV, Found, found, follow, readFrom, rowOf}
-use Rattle.standard.specs.Machine.{State, Refusal, Next, goes, stops, goesOn, admit, finish, finish1, finish2, finish3, finishMany, never, perform, step}
-use Rattle.standard.specs.Runs.{begin, stepFrom, run}
+use Rattle.standard.specs.Rows.{Act, readOn, enter, putBack, make, reduce1, reduce2, refuse, Case, opcode, number, anyNumber, pushed, other, fits, look, cases, actAt, isAndV, Found, follow, readFrom, rowOf}
+use Rattle.standard.specs.Machine.{Next, goes, stops, goesOn, admit, finish, finish1, finish2, finish3, finishMany, never, perform, step}
 
 -- What the next token pays for at a point: eight steps and two nodes, less where an expression begins
 
@@ -155,7 +154,7 @@ keyCost (reduce2 c) = 0
 keyCost (refuse n) = 0
 
 -- a push pays for a key
-abbrev keyCredit : Lexeme → ℕ
+abbrev pub keyCredit : Lexeme → ℕ
 keyCredit (op c) = 0
 keyCredit (num n) = 0
 keyCredit (push c d) = 1

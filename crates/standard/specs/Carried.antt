@@ -20,12 +20,12 @@ use Rattle.standard.specs.Types.{typeOf}
 use Rattle.standard.specs.Rows.{NonTerm, Expression, MaybeAndV}
 use Rattle.standard.specs.Machine.{State, Refusal, refusal, Next, goes, stops, goesOn, step, Limits, fitting, stepWithin, start, after, Verdict, accepted, refused, Run, ends, topIs, closes, whenEmpty, carryOn, decode, never}
 use Rattle.standard.specs.Sound.{Good, Passed, start-good, step-good, end-good}
-use Rattle.standard.specs.Runs.{begin, stepFrom, run}
-use Rattle.standard.specs.Bound.{toStep, toMake, pushes, Bounded, begin-bounded, step-bounded, work-le}
+use Rattle.standard.specs.Runs.{begin, run}
+use Rattle.standard.specs.Bound.{pushes, Bounded, begin-bounded, step-bounded, work-le}
 
 -- The limits only refuse, by 15, 16 or 17
 
-fitting-keeps : (P : Next → Type 0) (limits : Limits) (a : Next) → P a → ((r : Refusal) → within 15 (r .number) 17 ≡ true → P (stops r)) → P (fitting limits a)
+pub fitting-keeps : (P : Next → Type 0) (limits : Limits) (a : Next) → P a → ((r : Refusal) → within 15 (r .number) 17 ≡ true → P (stops r)) → P (fitting limits a)
 fitting-keeps P limits (stops r) p f = p
 fitting-keeps P limits (goes s) p f = by (leb (keyCounts (s .done)) (limits .keys)) (leb (sizes (s .done)) (limits .nodes)) (leb (length (s .work)) (limits .work))
   where
@@ -130,6 +130,12 @@ module _ (segwit : Bool) where
         at-end tokens most steps (s .work) (s .left) (s .done) g
         (λ k. carry-ends tokens t d most (suc steps) (omega arith) (stepWithin segwit limits s) (bounded-next t d steps s b) (good-within tokens limits (step segwit (s .work) (s .left) (s .done)) k))
 
+    -- every state is bounded
+    after-bounded : (t d n m : ℕ) (a : Next) → Bounded t d n a → Bounded t d (n + m) (after segwit limits m a)
+    after-bounded t d n zero a b = let z : n + 0 ≡ n = omega arith in rw z b
+    after-bounded t d n (suc m) (stops r) b = tt
+    after-bounded t d n (suc m) (goes s) b = let z : n + suc m ≡ suc n + m = omega arith in rw z (after-bounded t d (suc n) m (stepWithin segwit limits s) (bounded-next t d n s b))
+
     -- more of it changes nothing
     at-fuel : (work : List NonTerm) (now : Run) (x y : Run) → (x ≡ y) → whenEmpty work now x ≡ whenEmpty work now y
     at-fuel work now x y e = ap (whenEmpty work now) e
@@ -180,7 +186,7 @@ module _ (segwit : Bool) where
         at-run m steps (s .work) (s .left) (s .done) _ _ _ _ e (ap (carryOn segwit limits most (suc steps)) fit ∙ ih ∙ ap (λ (i : ℕ). ends i (accepted u)) z)
 
     -- with ample limits no table refuses
-    abbrev EndsAmple : Verdict → Type 0
+    abbrev pub EndsAmple : Verdict → Type 0
     EndsAmple (accepted u) = Unit {0}
     EndsAmple (refused r) = (within 9 (r .number) 14 || within 18 (r .number) 19) ≡ true
 
@@ -223,7 +229,7 @@ module _ (segwit : Bool) where
     Ended (stops r) v = v ≡ refused r
     Ended (goes s) v = (s .work ≡ []) × (v ≡ closes segwit (s .left) (s .done))
 
-    abbrev Counted : ℕ → Next → Run → Type 0
+    abbrev pub Counted : ℕ → Next → Run → Type 0
     Counted steps a r = (m : ℕ) × (r .steps ≡ steps + m) × (Ended (after segwit limits m a) (r .verdict) × ((i : ℕ) → i < m → Working (after segwit limits i a)))
 
     shift : (s : State) (m : ℕ) → Working (goes s) → ((j : ℕ) → j < m → Working (after segwit limits j (stepWithin segwit limits s))) → (i : ℕ) → i < suc m → Working (after segwit limits i (goes s))
@@ -285,6 +291,9 @@ module _ (segwit : Bool) (limits : Limits) (lexemes : List Lexeme) where
   decode-ends = carry-ends segwit limits lexemes (length lexemes) (pushes lexemes) (8 * length lexemes + 2) 0 (omega arith) (start segwit limits left)
       (bounded-within segwit limits (length lexemes) (pushes lexemes) 0 begun start-bounded) (good-within segwit lexemes limits begun good)
 
+  pub decode-bounded : (m : ℕ) → Bounded (length lexemes) (pushes lexemes) (0 + m) (after segwit limits m (start segwit limits left))
+  decode-bounded m = after-bounded segwit limits (length lexemes) (pushes lexemes) 0 m (start segwit limits left) (bounded-within segwit limits (length lexemes) (pushes lexemes) 0 begun start-bounded)
+
   pub decode-more : (most : ℕ) → 8 * length lexemes + 2 ≤ most → carryOn segwit limits (suc most) 0 (start segwit limits left) ≡ carryOn segwit limits most 0 (start segwit limits left)
   decode-more most h = carry-more segwit limits (length lexemes) (pushes lexemes) most 0 (omega arith) (start segwit limits left) (bounded-within segwit limits (length lexemes) (pushes lexemes) 0 begun start-bounded)
 
@@ -309,3 +318,46 @@ module _ (segwit : Bool) (limits : Limits) (lexemes : List Lexeme) where
       let fit : start segwit limits left ≡ begun = ample-fits limits (length lexemes) (pushes lexemes) 0 h begun start-bounded in
       let z : 0 + m ≡ m = omega arith in
       ap (carryOn segwit limits (8 * length lexemes + 2) 0) fit ∙ carry-complete segwit limits (length lexemes) (pushes lexemes) h m (8 * length lexemes + 2) 0 (omega arith) begun u start-bounded e p ∙ ap (λ (i : ℕ). ends i (accepted u)) z
+
+-- What is accepted, whatever the limits, is what a run without limits ends in
+
+module _ (segwit : Bool) (limits : Limits) where
+  goes-of : (a : Next) (s : State) → fitting limits a ≡ goes s → a ≡ goes s
+  goes-of a s e = fitting-keeps (λ (x : Next). x ≡ goes s → a ≡ goes s) limits a (λ f. f) (λ r w f. let z : _≡_ {A = ℕ} 0 1 = cc in let b : ⊥ = omega arith in absurd b) e
+
+  stops-after : (m : ℕ) (r : Refusal) (s : State) → after segwit limits m (stops r) ≡ goes s → ⊥
+  stops-after zero r s e = let z : _≡_ {A = ℕ} 0 1 = cc in omega arith
+  stops-after (suc m) r s e = let z : _≡_ {A = ℕ} 0 1 = cc in omega arith
+
+  after-run : (m : ℕ) (a : Next) (s : State) → after segwit limits m (fitting limits a) ≡ goes s → run segwit m a ≡ goes s
+  after-run zero a s e = goes-of a s e
+  after-run (suc m) (stops r) s e = absurd (stops-after (suc m) r s e)
+  after-run (suc m) (goes x) s e =
+      fitting-keeps (λ (y : Next). after segwit limits (suc m) y ≡ goes s → run segwit (suc m) (goes x) ≡ goes s) limits (goes x)
+      (λ f. after-run m (step segwit (x .work) (x .left) (x .done)) s f) (λ r w f. absurd (stops-after (suc m) r s f)) e
+
+  top-tree : (t u : Tree) (o : Typed) → topIs t o ≡ accepted u → t ≡ u
+  top-tree t u (Is c) e = by (isB (c .base)) e
+    where
+      by : (b : Bool) → pick b (accepted t) (refused (refusal 19 0 [])) ≡ accepted u → t ≡ u
+      by true f = cc
+      by false f = let z : _≡_ {A = ℕ} 0 1 = cc in let b : ⊥ = omega arith in absurd b
+  top-tree t u (Not x) e = let z : _≡_ {A = ℕ} 0 1 = cc in let b : ⊥ = omega arith in absurd b
+
+  closes-tree : (left : List Lexeme) (done : Trees) (u : Tree) → closes segwit left done ≡ accepted u → (left ≡ []) × (done ≡ u ⊳ nil)
+  closes-tree (x ∷ left) done u e = let z : _≡_ {A = ℕ} 0 1 = cc in let b : ⊥ = omega arith in absurd b
+  closes-tree [] nil u e = let z : _≡_ {A = ℕ} 0 1 = cc in let b : ⊥ = omega arith in absurd b
+  closes-tree [] (t ⊳ nil) u e = (refl, ap (λ (v : Tree). v ⊳ nil) (top-tree t u (typeOf segwit t) e))
+  closes-tree [] (t ⊳ (v ⊳ done)) u e = let z : _≡_ {A = ℕ} 0 1 = cc in let b : ⊥ = omega arith in absurd b
+
+  ended-run : (m : ℕ) (a : Next) (v : Verdict) (u : Tree) → v ≡ accepted u → (b : Next) → after segwit limits m (fitting limits a) ≡ b → Ended segwit limits b v → run segwit m a ≡ goesOn [] [] (u ⊳ nil)
+  ended-run m a v u e (stops r) f g = let h : refused r ≡ accepted u = sym g ∙ e in let z : _≡_ {A = ℕ} 0 1 = cc in let b : ⊥ = omega arith in absurd b
+  ended-run m a v u e (goes s) f g =
+      let c = closes-tree (s .left) (s .done) u (sym (g .1) ∙ e) in
+      after-run m a s f ∙ rw (g .0, c .0, c .1)
+
+  pub accepted-run : (lexemes : List Lexeme) (u : Tree) → decode segwit limits lexemes .verdict ≡ accepted u → (m : ℕ) × (run segwit m (begin (reverseAux lexemes [])) ≡ goesOn [] [] (u ⊳ nil))
+  unfolding begin
+  accepted-run lexemes u e =
+      let c = decode-counts segwit limits lexemes in
+      (c .0, ended-run (c .0) (goesOn (Expression ∷ MaybeAndV ∷ []) (reverseAux lexemes []) nil) (decode segwit limits lexemes .verdict) u e (after segwit limits (c .0) (start segwit limits (reverseAux lexemes []))) refl (c .2 .0))

@@ -1,15 +1,14 @@
 -- The tokens of every well-typed, allowed tree are read, to a tree of the same type whose and_v chains are nested to the left.
 -- Why: a tree is read as an expression with no and_v before it (`Core`), or as a chain of such (`Parsed`). c:, v:, n: and and_b's first child let the chain float out, with the same type (laws 4 and 5); the first child of or_b, or_d, or_c, and_or and thresh is dissatisfiable, so it has no chain (laws 2 and 3). The rest is walking the rows.
 use mathlib.Core.Path.{_≡_, refl, sym, ap, _∙_}
-use mathlib.Core.Bool.{Bool, true, false, _&&_, not, true≢false}
+use mathlib.Core.Bool.{Bool, true, false, _&&_, true≢false}
 use mathlib.Core.List.{List, [], _∷_, _++_, reverseAux}
-use Prim.Native.Nat.{ℕ, zero, suc, _+_}
+use Prim.Native.Nat.{ℕ, suc, _+_}
 use native.Mathlib.Omega.{arith}
 use lib.Dec.{eqb, leb}
 use lib.ListN.{length}
 use borrow.Author.Tests.{eqb-true}
 use Rattle.correctness.specs.declared.Correctness.{Correctness}
-use Rattle.correctness.specs.declared.ErrorKind.{ErrorKind}
 use Rattle.correctness.specs.declared.Typed.{Typed}
 use Rattle.correctness.specs.declared.Typed.the-variants.{Is, Not}
 use Rattle.base_input.specs.Tests.{isW}
@@ -21,13 +20,13 @@ use Rattle.tables.specs.Choose.{pick}
 use Rattle.standard.specs.Tree.{Key, key, Hash, sha256, hash256, ripemd160, hash160, Leaf, True, False, PkK, RawPkH, After, Older, HashLock, Multi, MultiA, Wrapper, alt, swap, check, dupIf, verify, nonZero, zeroNotEqual, Combination, andV, andB, orB, orD, orC, orI, Tree, Trees, leaf, wrap, join, andOr, thresh, nil, _⊳_, many, _⊕_, isAndVTree, leftNested, allLeftNested}
 use Rattle.standard.specs.Written.{keyPush, hashOpcode, hashPush, keysBefore, addedKeysBefore, leafBefore, opening, closing, first, between, last, treeBefore, addedTreesBefore, written}
 use Rattle.standard.specs.Allowed.{within, keyForm, multiKey, multiAKey, allMultiKeys, allMultiAKeys, multiCount, multiAThreshold, allowedLeaf, threshAllowed, allowed, allAllowed}
-use Rattle.standard.specs.Types.{wrapperRule, combinationRule, AllTyped, all, not-all, andThen, ruled, typeOf, typesOf, typedLeaf, Judged, passes, judge}
-use Rattle.standard.specs.Rows.{NonTerm, Expression, WExpression, MaybeAndV, AndV, Alt, Swap, EndIf, EndIfNotIf, EndIfElse, Tern, Reduce1, Reduce2, ThreshW, ThreshE, Check, Verify, ZeroNotEqual, AndB, OrB, OrC, OrD, multiKeys, multiAKeys, inWExpression, inEndIfNotIf, inThreshW, afterVerify, Act, putBack, actAt, isAndV, readFrom}
+use Rattle.standard.specs.Types.{wrapperRule, combinationRule, AllTyped, all, not-all, andThen, ruled, typeOf, typesOf, typedLeaf, passes, judge}
+use Rattle.standard.specs.Rows.{NonTerm, Expression, WExpression, MaybeAndV, AndV, Alt, Swap, EndIf, EndIfNotIf, EndIfElse, Tern, Reduce1, Reduce2, ThreshW, ThreshE, Check, Verify, ZeroNotEqual, OrC, OrD, multiKeys, multiAKeys, inWExpression, inEndIfNotIf, inThreshW, afterVerify, putBack, actAt, isAndV, readFrom}
 use Rattle.standard.specs.Machine.{Next, goesOn, finish, step}
 use Rattle.standard.specs.Sound.{take-all}
 use Rattle.standard.specs.RuleLaws.{and-left, and-right, onward-is, givesW, takesW, wrapper-bases, combination-bases, and-or-bases, AllW, threshold-bases, leaf-base, first-dissatisfiable, and-or-dissatisfiable, and-v-not-dissatisfiable, and-v-associative, floats, wrapper-floats, and-b-floats}
 use Rattle.standard.specs.Runs as runs
-use Rattle.standard.specs.Runs.{begin, run}
+use Rattle.standard.specs.Runs.{begin}
 
 -- The tokens of a tree as they are read: last first, in front of `left`
 

@@ -1,4 +1,5 @@
--- Trees, their written form, what is allowed, their types, and the rows of `decode`.
+-- What a tree is, how BIP 379 writes it, what the rows of `decode` do, and that they accept exactly the written forms of well-typed, allowed trees.
+-- Definitions, in the order to read them
 pub mod Tree
 pub mod Written
 pub mod Allowed
@@ -8,9 +9,19 @@ pub mod Rows
 pub mod Machine
 pub mod Outcome
 pub mod Examples
-pub mod Sound
+-- Theorems: the reader's outcome over bytes, reading lexemes, types, tables, written form, places
+pub mod Demand3
+pub mod Reads
+pub mod TypesAgree
+pub mod TableLaws
+pub mod WrittenLaws
+pub mod PlaceLaws
+pub mod CountLaws
+-- What their proofs stand on: the laws of the rules, runs without limits, and the invariants of a run
 pub mod RuleLaws
 pub mod Runs
+pub mod Sound
 pub mod Complete
 pub mod Bound
 pub mod Carried
+pub mod ScriptLaws

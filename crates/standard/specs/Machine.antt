@@ -1,19 +1,18 @@
 -- A run of the rows (document 01, "Tokens to tree" and "When the desk says no", numbers 9 to 19): one step takes one entry off the work list and carries its row out on the finished trees; then what was made must fit into the tables.
-use mathlib.Core.Bool.{Bool, true, false}
+use mathlib.Core.Bool.{Bool}
 use mathlib.Core.List.{List, [], _∷_, _++_, reverseAux}
 use Prim.Native.Nat.{ℕ, zero, suc, _+_, _*_}
 use lib.Dec.{leb}
 use lib.ListN.{length}
-use Rattle.correctness.specs.declared.Correctness.{Correctness}
 use Rattle.correctness.specs.declared.Typed.{Typed}
 use Rattle.correctness.specs.declared.Typed.the-variants.{Is, Not}
 use Rattle.base_input.specs.Tests.{isB}
 use Rattle.lex.specs.Token.{Lexeme}
 use Rattle.tables.specs.Choose.{pick}
-use Rattle.standard.specs.Tree.{Wrapper, Combination, andV, Tree, Trees, leaf, wrap, join, andOr, thresh, nil, _⊳_, sizes, keyCounts}
+use Rattle.standard.specs.Tree.{Wrapper, Combination, Tree, Trees, leaf, wrap, join, andOr, thresh, nil, _⊳_, sizes, keyCounts}
 use Rattle.standard.specs.Types.{typeOf, Judged, passes, fails, judge}
 use Rattle.standard.specs.Table.{takeTrees}
-use Rattle.standard.specs.Rows.{NonTerm, Expression, MaybeAndV, Asks, noneLeft, reduces3, refuses, enters, makes, reduces1, reduces2, reducesMany, Found, found, rowOf}
+use Rattle.standard.specs.Rows.{NonTerm, Expression, MaybeAndV, noneLeft, reduces3, refuses, enters, makes, reduces1, reduces2, reducesMany, Found, found, rowOf}
 
 -- work list, the next entry first; tokens left, the next one first; finished trees, the newest first
 pub record State : Type 0 where

@@ -1,15 +1,15 @@
 -- The whole outcome of the reader (document 01, "When the desk says no"): from the script kind, the script and the four tables' lengths, the answer and what every table holds. The first in time wins: 20, 1, lexing, decoding, 18, 19.
-use mathlib.Core.Bool.{Bool, true, false}
+use mathlib.Core.Bool.{Bool}
 use mathlib.Core.List.{List, [], _∷_, _++_, map}
 use Prim.Native.Nat.{ℕ, zero, suc, _+_, _-_, _*_, _/_}
 use lib.Dec.{eqb, leb}
 use lib.ListN.{length}
-use Rattle.lex.specs.Token.{Token, Lexeme, lexeme}
+use Rattle.lex.specs.Token.{Token, lexeme}
 use Rattle.lex.specs.Script as lex
 use Rattle.lex.specs.Script.{lexOf, numbers}
 use Rattle.tables.specs.Choose.{pick}
 use Rattle.tables.specs.Tables.{zeros, flat}
-use Rattle.standard.specs.Tree.{Tree, Trees, nil, _⊳_}
+use Rattle.standard.specs.Tree.{nil, _⊳_}
 use Rattle.standard.specs.Table.{Node, nodeCells, cells, nodeTable, keyTable}
 use Rattle.standard.specs.Machine.{Limits, Refusal, Verdict, accepted, refused, Run, decode}
 

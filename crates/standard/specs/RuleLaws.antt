@@ -1,28 +1,27 @@
--- The laws of the type rules that the theorems about reading stand on. Only this file opens a rule; a changed rule that keeps these laws leaves the theorems standing.
+-- The laws of the type rules that the theorems about reading stand on. Only this file opens a rule, for 1 and 2; 3 to 5 are laws of `correctness`. A changed rule that keeps these laws leaves the theorems standing.
 -- 1. Which children and results are W: of a wrapper, a combination, and_or and a thresh (`wrapper-bases`, `combination-bases`, `and-or-bases`, `threshold-bases`, `leaf-base`).
 -- 2. The first child of or_b, or_d, or_c, and_or and thresh is dissatisfiable (`first-dissatisfiable`, `and-or-dissatisfiable`, `threshold-bases`).
 -- 3. An and_v is never dissatisfiable (`and-v-not-dissatisfiable`).
 -- 4. and_v is associative where it is typed (`and-v-associative`).
 -- 5. c:, v:, n: and and_b's first child commute with an and_v before them, and the type stays the same (`wrapper-floats`, `and-b-floats`).
 use mathlib.Core.Path.{_≡_, refl, sym, ap, _∙_}
-use mathlib.Core.Bool.{Bool, true, false, _&&_, _||_, not, true≢false}
+use mathlib.Core.Bool.{Bool, true, false, _&&_, not, true≢false}
 use mathlib.Core.List.{List, [], _∷_}
-use Prim.Native.Nat.{ℕ, zero, suc, _+_}
+use mathlib.Core.Option.{some}
+use Prim.Native.Nat.{ℕ, _+_}
 use native.Mathlib.Omega.{arith}
 use lib.Dec.{eqb}
 use borrow.Author.Tests.{ne-eqb}
 use Rattle.base_input.specs.declared.Base.{Base}
 use Rattle.base_input.specs.declared.Base.the-variants.{B, K, «V», W}
 use Rattle.base_input.specs.declared.Input.{Input}
-use Rattle.base_input.specs.declared.Input.the-variants.{Zero, One, Any, OneNonZero, AnyNonZero}
 use Rattle.correctness.specs.declared.Correctness.{Correctness}
 use Rattle.correctness.specs.declared.ErrorKind.{ErrorKind}
 use Rattle.correctness.specs.declared.Typed.{Typed}
 use Rattle.correctness.specs.declared.Typed.the-variants.{Is, Not}
 use Rattle.base_input.specs.Tests.{isB, isK, isV, isW, equalBKV, isZero, takesOne, topNonZero}
-use Rattle.correctness.specs.Rules as rules
-use Rattle.base_input.specs.Inputs.{andInput, ifZero}
-use Rattle.correctness.specs.Rules.{check, is, onward, castAlt, castSwap, castCheck, castDupif, castVerify, castNonzero, castZeronotequal, andB, andV, orB, orD, orC, orI, andOr, thresholdChild, thresholdFrom, threshold, noChildren, leafType}
+use Rattle.correctness.specs.AndVLaws as laws
+use Rattle.correctness.specs.Rules.{check, is, given, onward, castAlt, castSwap, castCheck, castDupif, castVerify, castNonzero, castZeronotequal, andB, andV, orB, orD, orC, orI, andOr, thresholdChild, thresholdFrom, threshold, noChildren, leafType}
 use Rattle.tables.specs.Choose.{pick}
 use Rattle.standard.specs.Tree as tree
 use Rattle.standard.specs.Tree.{Wrapper, Combination, Leaf}
@@ -241,61 +240,29 @@ pub and-or-dissatisfiable : (a b c r : Correctness) → andOr a b c ≡ Is r →
 unfolding andOr
 and-or-dissatisfiable a b c r e = checked (a .dissatisfiable) _ _ r e .0
 
--- 3. An and_v is never dissatisfiable
-
-and-v-is : (a b r : Correctness) → andV a b ≡ Is r → (isV (a .base) ≡ true) × ((isW (b .base) ≡ false) × (r ≡ correct (b .base) (andInput (a .input) (b .input)) false (b .unit)))
-unfolding andV
-and-v-is a b r e =
-    let h = checked (isV (a .base) && not (isW (b .base))) _ _ r e in
-    (and-left (isV (a .base)) _ (h .0), (not-not-W (b .base) (and-right (isV (a .base)) _ (h .0)), made _ _ _ _ r (h .1)))
-
-and-v-of : (a b : Correctness) → isV (a .base) ≡ true → isW (b .base) ≡ false → andV a b ≡ Is (correct (b .base) (andInput (a .input) (b .input)) false (b .unit))
-unfolding andV
-and-v-of a b v w = rw (v, w)
+-- 3. An and_v is never dissatisfiable: a law of `correctness`
 
 pub and-v-not-dissatisfiable : (a b r : Correctness) → andV a b ≡ Is r → r .dissatisfiable ≡ false
-and-v-not-dissatisfiable a b r e = rw (and-v-is a b r e .1 .1)
+and-v-not-dissatisfiable a b r e = laws.and-v-not-dissatisfiable a b r e
 
--- 4. and_v is associative
+-- 4. and_v is associative: a law of `correctness`, read from the right-nested chain to the left-nested one
 
-if-zero-and : (j k x y : Input) → ifZero (andInput j k) x y ≡ ifZero j (ifZero k x y) y
-if-zero-and Zero k x y = refl
-if-zero-and One Zero x y = refl
-if-zero-and One One x y = refl
-if-zero-and One Any x y = refl
-if-zero-and One OneNonZero x y = refl
-if-zero-and One AnyNonZero x y = refl
-if-zero-and Any k x y = refl
-if-zero-and OneNonZero Zero x y = refl
-if-zero-and OneNonZero One x y = refl
-if-zero-and OneNonZero Any x y = refl
-if-zero-and OneNonZero OneNonZero x y = refl
-if-zero-and OneNonZero AnyNonZero x y = refl
-if-zero-and AnyNonZero k x y = refl
+given-is : (o : Typed) (r : Correctness) → given o ≡ some r → o ≡ Is r
+given-is (Is c) r e = let h : c ≡ r = cc in ap (λ (x : Correctness). Is x) h
+given-is (Not x) r e = let z : _≡_ {A = ℕ} 0 1 = cc in let b : ⊥ = omega arith in absurd b
 
-and-if-zero : (j x y k : Input) → andInput (ifZero j x y) k ≡ ifZero j (andInput x k) (andInput y k)
-and-if-zero Zero x y k = refl
-and-if-zero One x y k = refl
-and-if-zero Any x y k = refl
-and-if-zero OneNonZero x y k = refl
-and-if-zero AnyNonZero x y k = refl
+given-onward : (o : Typed) (f : Correctness → Typed) (r : Correctness) → given (onward o f) ≡ some r → (c : Correctness) × (o ≡ Is c) × (f c ≡ Is r)
+given-onward (Is c) f r e = (c, refl, given-is (f c) r e)
+given-onward (Not x) f r e = let z : _≡_ {A = ℕ} 0 1 = cc in let b : ⊥ = omega arith in absurd b
 
-and-input-associative : (i j k : Input) → andInput (andInput i j) k ≡ andInput i (andInput j k)
-and-input-associative Zero j k = refl
-and-input-associative One j k = and-if-zero j One Any k ∙ sym (if-zero-and j k One Any)
-and-input-associative Any j k = refl
-and-input-associative OneNonZero j k = and-if-zero j OneNonZero AnyNonZero k ∙ sym (if-zero-and j k OneNonZero AnyNonZero)
-and-input-associative AnyNonZero j k = refl
+-- a type that is given one way is given the other way
+commuted : (o q : Typed) (f g : Correctness → Typed) → given (onward o f) ≡ given (onward q g) → (y r : Correctness) → q ≡ Is y → g y ≡ Is r → (w : Correctness) × (o ≡ Is w) × (f w ≡ Is r)
+commuted o q f g law y r e h = given-onward o f r (law ∙ rw (e, h))
 
--- from a right-nested chain to the left-nested one
 pub and-v-associative : (a v x y r : Correctness) → andV v x ≡ Is y → andV a y ≡ Is r → (w : Correctness) × (andV a v ≡ Is w) × (andV w x ≡ Is r)
-and-v-associative a v x y r e f =
-    let h = and-v-is v x y e in
-    let g = and-v-is a y r f in
-    let w = correct (v .base) (andInput (a .input) (v .input)) false (v .unit) in
-    (w, and-v-of a v (g .0) (V-not-W (v .base) (h .0)), rw (g .1 .1, h .1 .1, ← and-input-associative (a .input) (v .input) (x .input)) (and-v-of w x (h .0) (h .1 .0)))
+and-v-associative a v x y r e f = commuted (andV a v) (andV v x) (λ w. andV w x) (λ z. andV a z) (laws.and-v-associates a v x) y r e f
 
--- 5. What an and_v floats out of
+-- 5. What an and_v floats out of, with the same type: laws of `correctness`
 
 -- c:, v: and n:
 abbrev pub floats : Wrapper → Bool
@@ -309,35 +276,13 @@ floats tree.zeroNotEqual = true
 
 pub wrapper-floats : (segwit : Bool) (w : Wrapper) → floats w ≡ true → (v x y r : Correctness) → andV v x ≡ Is y → wrapperRule segwit w y ≡ Is r
     → (z : Correctness) × (wrapperRule segwit w x ≡ Is z) × (andV v z ≡ Is r)
-unfolding castCheck castVerify castZeronotequal
 wrapper-floats segwit tree.alt n v x y r e f = absurd (true≢false (sym n))
 wrapper-floats segwit tree.swap n v x y r e f = absurd (true≢false (sym n))
-wrapper-floats segwit tree.check n v x y r e f =
-    let h = and-v-is v x y e in
-    let g = checked (isK (y .base)) _ _ r f in
-    let k : isK (x .base) ≡ true = rw (h .1 .1) at (g .0) in
-    let z = correct B (x .input) (x .dissatisfiable) true in
-    (z, rw k, rw (made _ _ _ _ r (g .1), h .1 .1) (and-v-of v z (h .0) refl))
+wrapper-floats segwit tree.check n v x y r e f = commuted (castCheck x) (andV v x) (λ z. andV v z) castCheck (sym (laws.and-v-commutes castCheck laws.check-keeps v x)) y r e f
 wrapper-floats segwit tree.dupIf n v x y r e f = absurd (true≢false (sym n))
-wrapper-floats segwit tree.verify n v x y r e f =
-    let h = and-v-is v x y e in
-    let g = checked (isB (y .base)) _ _ r f in
-    let k : isB (x .base) ≡ true = rw (h .1 .1) at (g .0) in
-    let z = correct «V» (x .input) false false in
-    (z, rw k, rw (made _ _ _ _ r (g .1), h .1 .1) (and-v-of v z (h .0) refl))
+wrapper-floats segwit tree.verify n v x y r e f = commuted (castVerify x) (andV v x) (λ z. andV v z) castVerify (sym (laws.and-v-commutes castVerify laws.verify-keeps v x)) y r e f
 wrapper-floats segwit tree.nonZero n v x y r e f = absurd (true≢false (sym n))
-wrapper-floats segwit tree.zeroNotEqual n v x y r e f =
-    let h = and-v-is v x y e in
-    let g = checked (isB (y .base)) _ _ r f in
-    let k : isB (x .base) ≡ true = rw (h .1 .1) at (g .0) in
-    let z = correct B (x .input) (x .dissatisfiable) true in
-    (z, rw k, rw (made _ _ _ _ r (g .1), h .1 .1) (and-v-of v z (h .0) refl))
+wrapper-floats segwit tree.zeroNotEqual n v x y r e f = commuted (castZeronotequal x) (andV v x) (λ z. andV v z) castZeronotequal (sym (laws.and-v-commutes castZeronotequal laws.zeronotequal-keeps v x)) y r e f
 
 pub and-b-floats : (v x y b r : Correctness) → andV v x ≡ Is y → andB y b ≡ Is r → (z : Correctness) × (andB x b ≡ Is z) × (andV v z ≡ Is r)
-unfolding andB
-and-b-floats v x y b r e f =
-    let h = and-v-is v x y e in
-    let g = checked (isB (y .base) && isW (b .base)) _ _ r f in
-    let k : (isB (x .base) && isW (b .base)) ≡ true = rw (h .1 .1) at (g .0) in
-    let z = correct B (andInput (x .input) (b .input)) (x .dissatisfiable && b .dissatisfiable) true in
-    (z, rw k, rw (made _ _ _ _ r (g .1), h .1 .1, and-input-associative (v .input) (x .input) (b .input)) (and-v-of v z (h .0) refl))
+and-b-floats v x y b r e f = commuted (andB x b) (andV v x) (λ z. andV v z) (λ z. andB z b) (sym (laws.and-b-commutes v x b)) y r e f

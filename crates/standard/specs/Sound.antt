@@ -1,7 +1,7 @@
 -- What a run of the rows makes is written with the tokens that it was given, and passes every rule; and a row never finds too few finished trees.
 -- Why: carry the work list out over the finished trees, with whatever trees are still to come; the tokens so written end in those taken. Each row keeps that (`rows-right`, case by case of the table), and where a pop would find nothing it says ⊥.
-use mathlib.Core.Path.{_≡_, refl, sym, ap}
-use mathlib.Core.Bool.{Bool, true, false, _&&_}
+use mathlib.Core.Path.{_≡_, refl, ap}
+use mathlib.Core.Bool.{Bool, true, false}
 use mathlib.Core.List.{List, [], _∷_, _++_, reverseAux}
 use Prim.Native.Nat.{ℕ, zero, suc, _+_}
 use native.Mathlib.Omega.{arith}
@@ -12,16 +12,16 @@ use Rattle.correctness.specs.declared.Correctness.{Correctness}
 use Rattle.correctness.specs.declared.Typed.{Typed}
 use Rattle.correctness.specs.declared.Typed.the-variants.{Is, Not}
 use Rattle.lex.specs.Token.{Data, Lexeme, op, num, push}
-use Rattle.lex.specs.Token.{ADD, EQUAL, NUMEQUAL, CHECKSIG, CHECKSIGADD, CHECKMULTISIG, CHECKSEQUENCEVERIFY, CHECKLOCKTIMEVERIFY, FROMALTSTACK, TOALTSTACK, DUP, IF, IFDUP, NOTIF, ELSE, ENDIF, ZERONOTEQUAL, SIZE, SWAP, VERIFY, HASH160, HASH20, BYTES32, BYTES33, BYTES65}
+use Rattle.lex.specs.Token.{EQUAL, NUMEQUAL, CHECKSIG, CHECKSIGADD, CHECKMULTISIG, CHECKSEQUENCEVERIFY, CHECKLOCKTIMEVERIFY, FROMALTSTACK, TOALTSTACK, DUP, IF, IFDUP, NOTIF, ELSE, ENDIF, ZERONOTEQUAL, SIZE, SWAP, VERIFY, HASH160, HASH20, BYTES32, BYTES33, BYTES65}
 use Rattle.tables.specs.Choose.{pick}
-use Rattle.standard.specs.Tree.{Key, key, Hash, Leaf, True, False, PkK, RawPkH, After, Older, HashLock, Multi, MultiA, Wrapper, alt, swap, check, dupIf, verify, nonZero, zeroNotEqual, Combination, andV, andB, orB, orD, orC, orI, Tree, Trees, leaf, wrap, join, andOr, thresh, nil, _⊳_, many, _⊕_}
+use Rattle.standard.specs.Tree.{Key, key, Leaf, True, False, PkK, RawPkH, After, Older, HashLock, Multi, MultiA, Wrapper, alt, swap, check, dupIf, verify, nonZero, zeroNotEqual, Combination, andV, andB, orB, orD, orC, orI, Tree, Trees, leaf, wrap, join, andOr, thresh, nil, _⊳_, many, _⊕_}
 use Rattle.standard.specs.Written.{keyPush, hashOpcode, hashPush, keysBefore, addedKeysBefore, treeBefore, addedTreesBefore, written}
 use Rattle.standard.specs.Allowed.{within, multiKey, multiAKey, allMultiKeys, allMultiAKeys, multiCount, multiAThreshold, allowedLeaf, leafRefusal, threshAllowed, allowed, allAllowed}
 use Rattle.standard.specs.Types.{typeOf, Judged, passes, fails, byRule, judge}
 use Rattle.standard.specs.Table.{takeTrees}
 use Rattle.standard.specs.Rows.{NonTerm, Expression, WExpression, MaybeAndV, AndV, Alt, Swap, EndIf, EndIfNotIf, EndIfElse, Tern, Reduce1, Reduce2, ThreshW, ThreshE, Point, inExpression, inWExpression, inAlt, inSwap, inEndIf, inEndIfNotIf, inEndIfElse, inThreshW, afterVerify, afterVerifyEqual, afterEqual, afterCheckSequenceVerify, afterCheckLockTimeVerify, afterCheckMultiSig, afterNumEqual, afterVerifyEqualHash20, afterVerifyEqualHash20Hash160, afterEqualHash20, afterBytes32, lockVerify, lockEqual, lock32, lockSize, multiKeys, multiAKeys, afterCheckSigAdd, afterCheckSig, afterIf, afterIfZeroNotEqual}
-use Rattle.standard.specs.Rows.{Act, readOn, enter, putBack, make, reduce1, reduce2, refuse, Case, opcode, number, anyNumber, pushed, other, fits, look, cases, actAt, isAndV, Found, found, noneLeft, reduces3, refuses, enters, makes, reduces1, reduces2, reducesMany, follow, readFrom, rowOf}
-use Rattle.standard.specs.Machine.{State, Refusal, Next, goes, stops, goesOn, refusal, admit, finish, finish1, finish2, finish3, finishMany, perform, step}
+use Rattle.standard.specs.Rows.{Act, readOn, enter, putBack, make, reduce1, reduce2, refuse, Case, opcode, number, anyNumber, pushed, other, fits, look, cases, actAt, isAndV, Found, follow, readFrom, rowOf}
+use Rattle.standard.specs.Machine.{Next, goes, stops, goesOn, admit, finish, finish1, finish2, finish3, finishMany, perform, step}
 
 -- the work list, carried out over the finished trees with whatever trees are still to come, ends in a tree whose tokens end in `text`
 abbrev pub Pending : List NonTerm → Trees → List Lexeme → Type 0

@@ -1,16 +1,18 @@
 -- The node table and the key table of a tree and of the finished trees: document 01, "Tokens to tree" ("A node holds ..", "Nodes stand in order of completion", "A multi's keys stand in script order in the key table, as offsets"). And a tree read back off the two tables and the script.
+use mathlib.Core.Path.{_≡_}
 use mathlib.Core.Bool.{Bool, true, false}
 use mathlib.Core.List.{List, [], _∷_, _++_}
 use mathlib.Core.Option.{Option, none, some}
 use Prim.Native.Nat.{ℕ, zero, suc, _+_}
 use lib.Dec.{eqb}
-use lib.ListN.{length, take, drop, getD}
+use lib.ListN.{length, take, drop}
 use Rattle.correctness.specs.declared.Typed.{Typed}
 use Rattle.correctness.specs.declared.Typed.the-variants.{Is, Not}
 use Rattle.base_input.specs.Numbers.{baseNumber, inputNumber, boolNumber}
-use Rattle.lex.specs.Token.{Data, dataAt, HASH20, BYTES32, BYTES33}
+use Rattle.lex.specs.Token.{Data, dataAt, dataLength, HASH20, BYTES32, BYTES33}
 use Rattle.tables.specs.Choose.{pick}
 use Rattle.standard.specs.Tree.{Key, key, Hash, sha256, hash256, ripemd160, hash160, Leaf, True, False, PkK, RawPkH, After, Older, HashLock, Multi, MultiA, Wrapper, alt, swap, check, dupIf, verify, nonZero, zeroNotEqual, Combination, andV, andB, orB, orD, orC, orI, Tree, Trees, leaf, wrap, join, andOr, thresh, nil, _⊳_, many, size, keyCount, keyCounts}
+use Rattle.standard.specs.Written.{hashPush}
 use Rattle.standard.specs.Types.{typeOf}
 
 -- a node: "kind; number (locktime or k); count (thresh children or keys); place (script offset of the key or hash data, or first entry in the key table); size (nodes in its subtree, itself too); base, input, d, u"
@@ -32,12 +34,26 @@ nodeCells = 9
 abbrev pub cells : Node → List ℕ
 cells n = n .kind ∷ n .number ∷ n .count ∷ n .place ∷ n .size ∷ n .base ∷ n .input ∷ n .d ∷ n .u ∷ []
 
--- a node of this type; a finished tree always has one
+-- the fields of a type; a finished tree always has one
+abbrev pub baseField : Typed → ℕ
+baseField (Is c) = baseNumber (c .base)
+baseField (Not e) = 0
+
+abbrev pub inputField : Typed → ℕ
+inputField (Is c) = inputNumber (c .input)
+inputField (Not e) = 0
+
+abbrev pub dField : Typed → ℕ
+dField (Is c) = boolNumber (c .dissatisfiable)
+dField (Not e) = 0
+
+abbrev pub uField : Typed → ℕ
+uField (Is c) = boolNumber (c .unit)
+uField (Not e) = 0
+
 abbrev pub node : ℕ → ℕ → ℕ → ℕ → ℕ → Typed → Node
-node kind number count place size (Is c) =
-    record { kind = kind; number = number; count = count; place = place; size = size; base = baseNumber (c .base); input = inputNumber (c .input); d = boolNumber (c .dissatisfiable); u = boolNumber (c .unit) }
-node kind number count place size (Not e) =
-    record { kind = kind; number = number; count = count; place = place; size = size; base = 0; input = 0; d = 0; u = 0 }
+node kind number count place size type =
+    record { kind = kind; number = number; count = count; place = place; size = size; base = baseField type; input = inputField type; d = dField type; u = uField type }
 
 -- "Kinds are numbered by `Terminal`'s order from True 1 to MultiA 28; 4 (PkH) never occurs"
 
@@ -258,3 +274,39 @@ theTree (some (t ⊳ (u ⊳ ts))) = none
 
 abbrev pub treeOf : Bool → List ℕ → List ℕ → List Node → Option Tree
 treeOf segwit script keys nodes = theTree (treesOf segwit script keys nodes nil)
+
+-- A tree that holds what the script has at its places: each key and hash is the bytes there, as many as its push has
+
+abbrev pub DataOf : List ℕ → ℕ → Data → Type 0
+DataOf script code d = d ≡ dataAt script (d .place) (dataLength code)
+
+abbrev pub KeysOf : List ℕ → List Key → Type 0
+KeysOf script [] = Unit {0}
+KeysOf script (key code d ∷ ks) = DataOf script code d × KeysOf script ks
+
+abbrev pub DatasOf : List ℕ → List Data → Type 0
+DatasOf script [] = Unit {0}
+DatasOf script (d ∷ ds) = DataOf script BYTES32 d × DatasOf script ds
+
+abbrev pub LeafOf : List ℕ → Leaf → Type 0
+LeafOf script True = Unit {0}
+LeafOf script False = Unit {0}
+LeafOf script (PkK (key code d)) = DataOf script code d
+LeafOf script (RawPkH d) = DataOf script HASH20 d
+LeafOf script (After n) = Unit {0}
+LeafOf script (Older n) = Unit {0}
+LeafOf script (HashLock h d) = DataOf script (hashPush h) d
+LeafOf script (Multi k ks) = KeysOf script ks
+LeafOf script (MultiA k d ds) = DatasOf script (d ∷ ds)
+
+abbrev mutual
+  pub TreeOf : List ℕ → Tree → Type 0
+  TreeOf script (leaf l) = LeafOf script l
+  TreeOf script (wrap w x) = TreeOf script x
+  TreeOf script (join c x y) = TreeOf script x × TreeOf script y
+  TreeOf script (andOr x y z) = TreeOf script x × (TreeOf script y × TreeOf script z)
+  TreeOf script (thresh k x xs) = TreeOf script x × TreesOf script xs
+
+  pub TreesOf : List ℕ → Trees → Type 0
+  TreesOf script nil = Unit {0}
+  TreesOf script (t ⊳ ts) = TreeOf script t × TreesOf script ts

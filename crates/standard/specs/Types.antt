@@ -1,10 +1,9 @@
 -- The type of a tree: by document 01's rules (those of `correctness`, cited), with the number and reason of a node's refusal; and by BIP 379's own rows.
 use mathlib.Core.Path.{_≡_}
-use mathlib.Core.Bool.{Bool, true, false, not}
+use mathlib.Core.Bool.{Bool, not}
 use mathlib.Core.List.{List, [], _∷_}
 use mathlib.Core.Option.{Option, none, some}
 use Prim.Native.Nat.{ℕ}
-use Rattle.base_input.specs.declared.Base.{Base}
 use Rattle.base_input.specs.declared.Base.the-variants as base
 use Rattle.correctness.specs.declared.Correctness.{Correctness}
 use Rattle.correctness.specs.declared.ErrorKind.{ErrorKind}

@@ -6,7 +6,7 @@ use Prim.Native.Nat.{ℕ, zero, suc, _+_, _-_, _*_, _≤_, _<_}
 use native.Mathlib.Nat.{mul-zero, mul-suc, mul-add, mul-one}
 use native.Mathlib.Omega.{arith}
 use lib.ListN.{length, getD, drop, length-append, length-replicate, List·getD-append}
-use lib.Seq.{take-at, drop-append-add, getD-append-add}
+use lib.Seq.{take-append-seam, drop-append-add, getD-append-add}
 use Rattle.tables.specs.Tables.{zeros, flat, Strided, putAt}
 use Rattle.tables.proofs.PutLaws.{put-parts}
 
@@ -45,23 +45,23 @@ pub table-length : (w size : ℕ) (es : List (List ℕ)) → Strided w es → w 
 table-length w size es s h =
     length-append (flat es) (zeros (size - w * length es)) ∙ omega (arith, flat-length w es s, length-replicate {A = ℕ} (size - w * length es) 0)
 
+-- numbers written where the zeros begin take the place of as many of them
+pub append-numbers : (front xs : List ℕ) (rest : ℕ) → length xs ≤ rest → putAt (front ++ zeros rest) (length front) xs ≡ front ++ xs ++ zeros (rest - length xs)
+append-numbers front xs rest h =
+    put-parts (front ++ zeros rest) (length front) xs (omega (arith, length-append front (zeros rest), length-replicate {A = ℕ} rest 0))
+    ∙ ap (λ (l : List ℕ). l ++ xs ++ drop (length front + length xs) (front ++ zeros rest)) (take-append-seam front (zeros rest))
+    ∙ ap (λ (l : List ℕ). front ++ xs ++ l) (drop-append-add front (zeros rest) (length xs) ∙ zeros-drop rest (length xs))
+
 -- one entry more
 pub append-entry : (w size n : ℕ) (es : List (List ℕ)) (e : List ℕ) → Strided w es → length e ≡ w → length es ≡ n → w * (n + 1) ≤ size
     → putAt (flat es ++ zeros (size - w * n)) (w * n) e ≡ flat (es ++ (e ∷ [])) ++ zeros (size - w * (n + 1))
 append-entry w size n es e s l c h =
     let m : w * (n + 1) ≡ w * n + w = mul-add w n 1 ∙ ap (λ (k : ℕ). w * n + k) (mul-one w) in
     let f : length (flat es) ≡ w * n = flat-length w es s ∙ ap (λ (k : ℕ). w * k) c in
-    let z : size - w * n - w ≡ size - w * (n + 1) = omega arith in
-    let old : List ℕ = zeros (size - w * n) in
-    put-parts (flat es ++ old) (w * n) e
-    (omega (arith, length-append (flat es) old, length-replicate {A = ℕ} (size - w * n) 0))
-    ∙ ap (λ (front : List ℕ). front ++ e ++ drop (w * n + length e) (flat es ++ old)) (take-at (flat es) old (w * n) f)
-    ∙ ap (λ (back : List ℕ). flat es ++ e ++ back)
-    (ap (λ (k : ℕ). drop (k + length e) (flat es ++ old)) (sym f)
-    ∙ drop-append-add (flat es) old (length e)
-    ∙ zeros-drop (size - w * n) (length e)
-    ∙ ap (λ (k : ℕ). zeros (size - w * n - k)) l
-    ∙ ap zeros z)
+    let z : size - w * n - length e ≡ size - w * (n + 1) = omega arith in
+    ap (λ (i : ℕ). putAt (flat es ++ zeros (size - w * n)) i e) (sym f)
+    ∙ append-numbers (flat es) e (size - w * n) (omega arith)
+    ∙ ap (λ (k : ℕ). flat es ++ e ++ zeros k) z
     ∙ ap (λ (front : List ℕ). front ++ zeros (size - w * (n + 1))) (sym (flat-one es e))
 
 -- number j of entry i stands in cell w * i + j, whatever follows the entries

@@ -1,8 +1,9 @@
--- Entries read off a table by index, the newest first: what a push, a pop and a table that changed elsewhere make of the list. Assumes nothing.
+-- Entries read off a table by index, the newest first: what a push, a pop and a table that changed elsewhere make of the list, and the list of a table that holds given entries in order. Assumes nothing.
 -- Why: the list of the first n entries depends on their readings alone, so what lies at or above n never matters.
-use mathlib.Core.Path.{_≡_, refl, ap, _∙_}
-use mathlib.Core.List.{List, _∷_}
+use mathlib.Core.Path.{_≡_, refl, sym, ap, _∙_}
+use mathlib.Core.List.{List, [], _∷_, reverse, reverseAux}
 use Prim.Native.Nat.{ℕ, zero, suc, _+_, _-_, _≤_, _<_}
+use native.Mathlib.Nat.{add-zero, zero-add}
 use native.Mathlib.Numerals.{add-one}
 use native.Mathlib.Omega.{arith}
 use lib.ListN.{length, getD, drop}
@@ -23,6 +24,27 @@ module _ {A : Type 0} where
   pub newest-push : (read other : ℕ → A) (n : ℕ) (a : A) → ((i : ℕ) → i < n → other i ≡ read i) → other n ≡ a → newest other (n + 1) ≡ a ∷ newest read n
   newest-push read other n a e p =
       ap (newest other) (add-one n) ∙ ap (λ (x : A). x ∷ newest other n) p ∙ ap (λ (l : List A). a ∷ l) (newest-same read other n e)
+
+  -- entries more on the front, the last one first, if the entries below are kept
+  pub newest-grown : (read other : ℕ → A) (n : ℕ) (entries : List A) (default : A) → ((i : ℕ) → i < n → other i ≡ read i)
+      → ((j : ℕ) → j < length entries → other (n + j) ≡ getD entries j default) → newest other (n + length entries) ≡ reverseAux entries (newest read n)
+  newest-grown read other n [] default e p = ap (newest other) (add-zero n) ∙ newest-same read other n e
+  newest-grown read other n (a ∷ entries) default e p =
+      let k : n + suc (length entries) ≡ n + 1 + length entries = omega arith in
+      let next : (j : ℕ) → n + 1 + j ≡ n + suc j = λ j. omega arith in
+      ap (newest other) k
+      ∙ newest-grown other other (n + 1) entries default (λ i h. refl) (λ j h. ap other (next j) ∙ p (suc j) (omega arith))
+      ∙ ap (reverseAux entries) (newest-push read other n a e (ap other (sym (add-zero n)) ∙ p 0 (omega arith)))
+
+  -- every entry of a table that holds these in order
+  pub newest-all : (read : ℕ → A) (entries : List A) (default : A) → ((j : ℕ) → j < length entries → read j ≡ getD entries j default) → newest read (length entries) ≡ reverse entries
+  newest-all read entries default e =
+      ap (newest read) (sym (zero-add (length entries)))
+      ∙ newest-grown read read 0 entries default (λ i h. refl) (λ j h. ap read (zero-add j) ∙ e j h)
+
+  -- all entries of a list, the newest first, are the list reversed
+  pub newest-reverse : (l : List A) (default : A) → newest (λ i. getD l i default) (length l) ≡ reverse l
+  newest-reverse l default = newest-all (λ i. getD l i default) l default (λ j h. refl)
 
   -- the newest entry, and the others
   pub newest-pop : (read : ℕ → A) (n : ℕ) → 1 ≤ n → newest read n ≡ read (n - 1) ∷ newest read (n - 1)

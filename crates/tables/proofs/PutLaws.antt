@@ -1,10 +1,10 @@
 -- Numbers written into a table: the length stays, the cells written hold them, the others are kept. Assumes nothing.
 -- Why: writing a list is a run of stores (`sets`), and each store changes one cell.
-use mathlib.Core.Path.{_≡_, refl, ap, _∙_}
+use mathlib.Core.Path.{_≡_, refl, sym, ap, _∙_}
 use mathlib.Core.List.{List, [], _∷_, _++_, append-nil}
 use mathlib.Core.Logic.{_≢_, _⊎_, inl, inr}
 use Prim.Native.Nat.{ℕ, zero, suc, _+_, _-_, _≤_, _<_}
-use native.Mathlib.Nat.{add-suc}
+use native.Mathlib.Nat.{add-suc, add-zero}
 use native.Mathlib.Numerals.{add-one}
 use native.Mathlib.Omega.{arith}
 use lib.ListN.{length, getD, set, take, drop, length-append, drop-of-length-le, List·getD-append}
@@ -53,6 +53,16 @@ put-before t i j xs h = ap (λ (l : List ℕ). getD l j 0) (put-sets t i xs) ∙
 
 pub put-behind : (t : List ℕ) (i j : ℕ) (xs : List ℕ) → i + length xs ≤ j → getD (putAt t i xs) j 0 ≡ getD t j 0
 put-behind t i j xs h = ap (λ (l : List ℕ). getD l j 0) (put-sets t i xs) ∙ sets-outside t i j xs (inr h)
+
+sets-more : (t : List ℕ) (i : ℕ) (xs : List ℕ) (x : ℕ) → set (sets t i xs) (i + length xs) x ≡ sets t i (xs ++ (x ∷ []))
+sets-more t i [] x = ap (λ (j : ℕ). set t j x) (add-zero i)
+sets-more t i (y ∷ ys) x =
+    let e : i + suc (length ys) ≡ suc i + length ys = omega arith in
+    ap (λ (j : ℕ). set (sets (set t i y) (suc i) ys) j x) e ∙ sets-more (set t i y) (suc i) ys x
+
+-- one number more behind those written
+pub put-more : (t : List ℕ) (i : ℕ) (xs : List ℕ) (x : ℕ) → set (putAt t i xs) (i + length xs) x ≡ putAt t i (xs ++ (x ∷ []))
+put-more t i xs x = ap (λ (l : List ℕ). set l (i + length xs) x) (put-sets t i xs) ∙ sets-more t i xs x ∙ sym (put-sets t i (xs ++ (x ∷ [])))
 
 -- every cell of a table of zeros, and past its end, reads 0
 pub zeros-cell : (n i : ℕ) → getD (zeros n) i 0 ≡ 0

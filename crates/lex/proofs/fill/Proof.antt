@@ -1,11 +1,11 @@
--- `lex::fill` meets its contract. The loop of FillLaws. Assumes nothing.
-use borrow.Author.Needs.{needs}
-use native.Mathlib.Omega.{arith}
+-- `lex::fill` meets its contract. Assumes nothing.
 use mathlib.Core.Path.{refl}
 use Prim.Native.Nat.{_-_}
-use lib.ListN.{length}
+use native.Mathlib.Omega.{arith}
 use denote.Ref.{now}
-use Rattle.lex.proofs.SizeLaws.{one-fits, two-fits}
+use lib.ListN.{length}
+use borrow.Author.Needs.{needs}
+use Rattle.instruction.proofs.SizeLaws.{one-fits, two-fits}
 use Rattle.lex.proofs.FillLaws.{Filling, fill-begun, fill-refused, fill-full-one, fill-full-two, fill-one, fill-two, fill-ended}
 use Rattle.lex.proofs.fill.Statement.{statement}
 use Rattle.lex.proofs.fill.Tie as tie

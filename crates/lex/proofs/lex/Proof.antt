@@ -1,12 +1,12 @@
--- `lex::lex` meets its contract. Cleared, filled, and cleared again after a refusal. Assumes nothing.
-use borrow.Author.Tests.{leb-true, not-true, not-false}
+-- `lex::lex` meets its contract. Assumes nothing.
 use mathlib.Core.Path.{sym, ap, _∙_}
-use lib.ListN.{length}
 use denote.Ref.{now}
+use lib.ListN.{length}
+use borrow.Author.Tests.{leb-true, not-true, not-false}
+use borrow.Author.Needs.{needs}
 use Rattle.tables.specs.Tables.{zeros}
 use Rattle.lex.specs.Script.{scriptLimit}
 use Rattle.lex.proofs.FillLaws.{lex-long, lex-filled, lex-cleared}
-use borrow.Author.Needs.{needs}
 use Rattle.lex.proofs.lex.Statement.{statement}
 use Rattle.lex.proofs.lex.Tie as tie
 
@@ -34,11 +34,8 @@ enum-known-answer c = search needs
 enum-known-answer-2 : tie.Need-enum-known-answer-2
 enum-known-answer-2 c = search needs
 
-clear-requires-2 : tie.Need-clear-requires-2
-clear-requires-2 c κs = search needs
-
-refused-requires-2 : tie.Need-refused-requires-2
-refused-requires-2 c κs = search needs
+refuse-requires : tie.Need-refuse-requires
+refuse-requires c κs = search needs
 
 same-length-2 : tie.Need-same-length-2
 same-length-2 c = search needs
@@ -50,7 +47,7 @@ same-length-3 : tie.Need-same-length-3
 same-length-3 c = search needs
 
 returns-3 : tie.Need-returns-3
-returns-3 c = lex-cleared (now (c .before .before .before .before .before .before .before .before .before .before .before .before .before .before .before .before .before .before .before .before .args .s)) (length (now (c .before .before .before .before .before .before .before .before .before .before .before .before .before .before .before .before .before .before .before .before .args .t))) (length (c .before .before .before .before .before .before .before .before .before .before .before .before .before .before .before .before .clear .last .0)) _ _ _ (c .before .before .before .before .before .before .before .before .before .before .before .before .before .before .before .before .clear .kept .0) (c .before .before .before .before .before .before .answer2 .given .1) (c .before .before .before .before .before .before .before .before .before .before .fill .ensures .0) (c .before .before .before .clear2 .ensures ∙ ap zeros (c .before .before .before .before .before .before .before .before .before .before .fill .kept .1 .0 ∙ c .before .before .before .before .before .before .before .before .before .before .before .before .before .before .before .before .clear .kept .0)) (c .refused2 .ensures)
+returns-3 c = lex-cleared (now (c .before .before .before .before .before .before .before .before .before .before .before .before .before .before .before .before .before .before .before .args .s)) (length (now (c .before .before .before .before .before .before .before .before .before .before .before .before .before .before .before .before .before .before .before .args .t))) (length (c .before .before .before .before .before .before .before .before .before .before .before .before .before .before .before .clear .last .0)) _ _ _ (c .before .before .before .before .before .before .before .before .before .before .before .before .before .before .before .clear .kept .0) (c .before .before .before .before .before .answer2 .given .1) (c .before .before .before .before .before .before .before .before .before .fill .ensures .0) (c .before .before .refuse .ensures .1 ∙ ap zeros (c .before .before .before .before .before .before .before .before .before .fill .kept .1 .0 ∙ c .before .before .before .before .before .before .before .before .before .before .before .before .before .before .before .clear .kept .0)) (c .before .before .refuse .ensures .0)
 
 pub lex-spec : {M : Type 1} → statement M
 lex-spec =
@@ -64,8 +61,7 @@ lex-spec =
     fill-requires
     enum-known-answer
     enum-known-answer-2
-    clear-requires-2
-    refused-requires-2
+    refuse-requires
     same-length-2
     returns-2
     same-length-3

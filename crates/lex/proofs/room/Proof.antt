@@ -1,13 +1,13 @@
--- `lex::room` meets its contract. The counting scan of FillLaws. Assumes nothing.
+-- `lex::room` meets its contract. Assumes nothing.
+use mathlib.Core.Path.{sym, _∙_}
+use Prim.Native.Nat.{_-_}
+use native.Mathlib.Omega.{arith}
+use denote.Ref.{now}
+use lib.ListN.{length}
 use borrow.Author.Tests.{leb-true, not-true, not-false}
 use borrow.Author.Needs.{needs}
-use native.Mathlib.Omega.{arith}
-use mathlib.Core.Path.{refl, sym, _∙_}
-use Prim.Native.Nat.{_-_}
-use lib.ListN.{length}
-use denote.Ref.{now}
 use Rattle.lex.specs.Script.{scriptLimit}
-use Rattle.lex.proofs.SizeLaws.{one-fits, two-fits}
+use Rattle.instruction.proofs.SizeLaws.{one-fits, two-fits}
 use Rattle.lex.proofs.FillLaws.{Counting, count-begun, count-refused, count-one, count-two, count-ended, count-long}
 use Rattle.lex.proofs.room.Statement.{statement}
 use Rattle.lex.proofs.room.Tie as tie

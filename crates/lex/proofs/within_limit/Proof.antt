@@ -1,4 +1,4 @@
--- `lex::within_limit` meets its contract: the one place where the limit's value is looked at. Assumes nothing.
+-- `lex::within_limit` meets its contract. Assumes nothing.
 use mathlib.Core.Path.{refl}
 use Rattle.lex.specs.Script.{scriptLimit}
 use Rattle.lex.proofs.within_limit.Statement.{statement}

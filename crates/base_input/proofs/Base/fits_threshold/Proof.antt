@@ -1,3 +1,4 @@
+-- `base_input::Base::fits_threshold` meets its contract. Assumes nothing.
 use Rattle.base_input.proofs.Chosen.{picks, skips}
 use borrow.Author.Tests.{eq-eqb, ne-eqb}
 use mathlib.Core.Path.{refl, _∙_}

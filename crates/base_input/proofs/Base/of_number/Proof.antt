@@ -1,3 +1,4 @@
+-- `base_input::Base::of_number` meets its contract. Assumes nothing.
 use Rattle.base_input.specs.Numbers.{baseOf}
 use Rattle.base_input.proofs.Chosen.{picks, skips}
 use borrow.Author.Tests.{eq-eqb, ne-eqb}

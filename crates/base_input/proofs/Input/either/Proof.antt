@@ -1,3 +1,4 @@
+-- `base_input::Input::either` meets its contract. Assumes nothing.
 use Rattle.base_input.proofs.Chosen.{both-is, picks, skips}
 use mathlib.Core.Path.{refl, sym, _∙_}
 use borrow.Author.Needs.{needs}

@@ -1,3 +1,4 @@
+-- `base_input::Input::is_subtype` meets its contract. Assumes nothing.
 use Rattle.base_input.specs.Inputs.{isSubtypeInput}
 use Rattle.base_input.proofs.Chosen.{both-is, not-is, picks, skips, equal-numbers, unequal-numbers, eqb-is}
 use mathlib.Core.Path.{refl}

@@ -1,3 +1,4 @@
+-- `base_input::Input::of_number` meets its contract. Assumes nothing.
 use Rattle.base_input.specs.Numbers.{inputOf}
 use Rattle.base_input.proofs.Chosen.{picks, skips}
 use borrow.Author.Tests.{eq-eqb, ne-eqb}

@@ -1,3 +1,4 @@
+-- `base_input::Input::or` meets its contract. Assumes nothing.
 use Rattle.base_input.proofs.Chosen.{or-else-is}
 use mathlib.Core.Path.{refl}
 use borrow.Author.Needs.{needs}

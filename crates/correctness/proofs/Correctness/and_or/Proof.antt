@@ -1,3 +1,4 @@
+-- `correctness::Correctness::and_or` meets its contract. Assumes nothing.
 use Rattle.correctness.specs.Rules.{andOr}
 use Rattle.correctness.proofs.Checks.{refuses, passes, same-is}
 use Rattle.base_input.proofs.Chosen.{fails, holds, both-is}

@@ -1,3 +1,4 @@
+-- `correctness::Correctness::cast_or_i_false` meets its contract. Assumes nothing.
 use Rattle.correctness.specs.Rules.{castOrIFalse}
 use Rattle.correctness.proofs.Checks.{refuses, passes, same-is}
 use Rattle.base_input.proofs.Chosen.{fails, holds}

@@ -1,3 +1,4 @@
+-- `correctness::Correctness::cast_swap` meets its contract. Assumes nothing.
 use Rattle.correctness.specs.Rules.{castSwap}
 use Rattle.correctness.proofs.Checks.{refuses, passes}
 use Rattle.base_input.proofs.Chosen.{fails, holds}

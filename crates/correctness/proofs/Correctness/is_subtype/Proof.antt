@@ -1,3 +1,4 @@
+-- `correctness::Correctness::is_subtype` meets its contract. Assumes nothing.
 use Rattle.correctness.specs.Rules.{isSubtype}
 use Rattle.base_input.proofs.Chosen.{both-is, eqb-is}
 use borrow.Author.Needs.{needs}

@@ -1,3 +1,4 @@
+-- `correctness::Correctness::leaf_type` meets its contract. Assumes nothing.
 use Rattle.correctness.specs.Rules.{leafType}
 use mathlib.Core.Path.{sym, ap}
 use borrow.Author.Needs.{needs}

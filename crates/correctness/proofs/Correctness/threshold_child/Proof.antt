@@ -1,3 +1,4 @@
+-- `correctness::Correctness::threshold_child` meets its contract. Assumes nothing.
 use Rattle.correctness.specs.Rules.{thresholdChild}
 use Rattle.correctness.proofs.Checks.{refuses, passes, same-is}
 use Rattle.base_input.proofs.Chosen.{fails, holds}

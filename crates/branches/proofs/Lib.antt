@@ -1,0 +1,1 @@
+-- The rows of ENDIF have no laws of their own.

@@ -1,0 +1,4 @@
+-- The decoder over lent tables, and the reader.
+pub mod Stepping
+pub mod Runs
+pub mod Read

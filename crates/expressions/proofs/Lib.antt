@@ -1,0 +1,2 @@
+-- Laws of the row Expression.
+pub mod FragmentLaws

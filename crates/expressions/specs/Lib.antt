@@ -1,0 +1,2 @@
+-- The row Expression: what its small functions answer.
+pub mod Fragments

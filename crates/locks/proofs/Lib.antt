@@ -1,0 +1,3 @@
+-- Laws of keys alone, locktimes and hash locks.
+pub mod KeyLaws
+pub mod LeafLaws

@@ -1,0 +1,3 @@
+-- One tree, one script.
+pub mod OneScript
+pub mod SegwitSpelling

@@ -1,0 +1,1 @@
+// One tree, one script: the theorem alone, see specs/.

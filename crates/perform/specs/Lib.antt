@@ -1,0 +1,2 @@
+-- What a row asks for, carried out on the lent tables.
+pub mod View

@@ -1,0 +1,6 @@
+-- That tokens fix bytes.
+pub mod NumberSpelling
+pub mod InstructionSpelling
+pub mod ScriptSpelling
+pub mod SpellingLexes
+pub mod PlaceTheorems

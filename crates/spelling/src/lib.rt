@@ -1,0 +1,1 @@
+// The canonical bytes of tokens, and that tokens fix bytes: definitions in specs/, theorems in proofs/. No code.

@@ -1,0 +1,125 @@
+-- Theorems about reading a script's lexemes. Any limits: what is accepted is written with exactly those lexemes (`accepted-is-written`); the steps are the entries taken, at most eight a token and two (`steps-at-most`, `steps-are-entries-taken`); a row never finds too few trees (`never-empty`); the room that a run takes goes by its tokens (`room-by-tokens`). Ample limits: accepted exactly when some well-typed, allowed tree of base B is written with the lexemes (`exactly`), and no table refuses (`ample-never-refuses`). What is found has its and_v chains nested to the left (`chains-left`) and the type of every other such tree (`one-type`).
+use mathlib.Core.Path.{_≡_, refl, sym, ap, _∙_}
+use mathlib.Core.Bool.{Bool, true, false, _||_}
+use mathlib.Core.List.{List, [], reverseAux}
+use mathlib.Core.Logic.{_↔_}
+use Prim.Native.Nat.{ℕ, zero, suc, _+_, _*_, _≤_, _<_}
+use native.Mathlib.Omega.{arith}
+use lib.ListN.{length}
+use Rattle.base_input.specs.declared.Base.{Base}
+use Rattle.base_input.specs.declared.Base.the-variants as base
+use Rattle.correctness.specs.declared.Correctness.{Correctness}
+use Rattle.correctness.specs.declared.Typed.the-variants.{Is}
+use Rattle.base_input.specs.Tests.{isB, isW}
+use Rattle.lex.specs.Token.{Lexeme}
+use Rattle.standard.specs.Tree.{Tree, nil, _⊳_, sizes, keyCounts, leftNested}
+use Rattle.standard.specs.Written.{written}
+use Rattle.standard.specs.Allowed.{within, allowed}
+use Rattle.standard.specs.Types.{typeOf, WellTypedB}
+use Rattle.standard.specs.Machine.{State, Limits, Refusal, goes, goesOn, start, after, accepted, refused, Run, ends, topIs, carryOn, decode}
+use Rattle.standard.specs.Runs.{begin, run, one-end}
+use Rattle.standard.specs.Complete.{complete}
+use Rattle.standard.specs.Bound.{pushes, Bounded, work-le}
+use Rattle.standard.specs.Carried.{Ample, Ends, EndsAmple, Working, Ended, decode-ends, decode-bounded, decode-more, decode-steps, decode-counts, decode-ample, decode-complete, accepted-run}
+
+B-is : (b : Base) → isB b ≡ true → b ≡ base.B
+B-is base.B e = refl
+B-is base.K e = let z : _≡_ {A = ℕ} 0 1 = cc in let x : ⊥ = omega arith in absurd x
+B-is base.«V» e = let z : _≡_ {A = ℕ} 0 1 = cc in let x : ⊥ = omega arith in absurd x
+B-is base.W e = let z : _≡_ {A = ℕ} 0 1 = cc in let x : ⊥ = omega arith in absurd x
+
+module _ (segwit : Bool) where
+  -- a tree of base B, well typed and allowed, that is written with these lexemes
+  abbrev pub WrittenWith : List Lexeme → Tree → Type 0
+  WrittenWith lexemes t = (written t ≡ lexemes) × ((allowed segwit t ≡ true) × WellTypedB segwit t)
+
+  abbrev pub Accepts : Limits → List Lexeme → Tree → Type 0
+  Accepts limits lexemes t = decode segwit limits lexemes .verdict ≡ accepted t
+
+  -- What is accepted is a tree of base B, well typed and allowed, written with exactly those lexemes
+  pub accepted-is-written : (limits : Limits) (lexemes : List Lexeme) (t : Tree) → Accepts limits lexemes t → WrittenWith lexemes t
+  accepted-is-written limits lexemes t e =
+      let h : Ends segwit lexemes (accepted t) = rw e at (decode-ends segwit limits lexemes) in
+      (h .0, (h .1 .0 .0, (h .1 .1 .0, h .1 .1 .1, B-is (h .1 .1 .0 .base) (h .1 .1 .2))))
+
+  top-accepted : (u : Tree) (c : Correctness) → typeOf segwit u ≡ Is c → c .base ≡ base.B → topIs u (typeOf segwit u) ≡ accepted u
+  top-accepted u c e b = rw (e, b)
+
+  -- the tree that a written tree's lexemes are read to: of the same type, nested to the left
+  found : (limits : Limits) (lexemes : List Lexeme) → Ample limits (length lexemes) (pushes lexemes) → (t : Tree) → (w : WrittenWith lexemes t)
+      → (u : Tree) × (n : ℕ) × (decode segwit limits lexemes ≡ ends n (accepted u)) × (typeOf segwit u ≡ typeOf segwit t) × (leftNested u ≡ true)
+  found limits lexemes h t w =
+      let c = w .1 .1 .0 in
+      let b : isW (c .base) ≡ false = rw (w .1 .1 .2) in
+      let k = complete segwit t c (w .1 .0) (w .1 .1 .1) b in
+      let r : run segwit (k .3 .0) (begin (reverseAux lexemes [])) ≡ goesOn [] [] (k .0 ⊳ nil) = rw (w .0) at (k .3 .1) in
+      (k .0, k .3 .0, decode-complete segwit limits lexemes h (k .3 .0) (k .0) r (top-accepted (k .0) c (k .1) (w .1 .1 .2)), k .1 ∙ sym (w .1 .1 .1), k .2)
+
+  -- With ample tables, lexemes are accepted exactly when some tree of base B, well typed and allowed, is written with them
+  pub exactly : (limits : Limits) (lexemes : List Lexeme) → Ample limits (length lexemes) (pushes lexemes)
+      → ((t : Tree) × Accepts limits lexemes t) ↔ ((t : Tree) × WrittenWith lexemes t)
+  exactly limits lexemes h =
+      ((λ a. (a .0, accepted-is-written limits lexemes (a .0) (a .1))), (λ w. let f = found limits lexemes h (w .0) (w .1) in (f .0, ap (λ (r : Run). r .verdict) (f .2))))
+
+  -- Whatever the tables, what is found has the same tree
+  pub one-tree : (limits other : Limits) (lexemes : List Lexeme) (t u : Tree) → Accepts limits lexemes t → Accepts other lexemes u → t ≡ u
+  one-tree limits other lexemes t u a b =
+      let p = accepted-run segwit limits lexemes t a in
+      let q = accepted-run segwit other lexemes u b in
+      one-end segwit (p .0) (q .0) (begin (reverseAux lexemes [])) t u (p .1) (q .1)
+
+  -- the tree that a written tree's lexemes are read to, whatever the tables that held it
+  found-is : (limits : Limits) (lexemes : List Lexeme) (t u : Tree) → Accepts limits lexemes t → WrittenWith lexemes u → (typeOf segwit t ≡ typeOf segwit u) × (leftNested t ≡ true)
+  found-is limits lexemes t u a w =
+      let c = w .1 .1 .0 in
+      let b : isW (c .base) ≡ false = rw (w .1 .1 .2) in
+      let k = complete segwit u c (w .1 .0) (w .1 .1 .1) b in
+      let r : run segwit (k .3 .0) (begin (reverseAux lexemes [])) ≡ goesOn [] [] (k .0 ⊳ nil) = rw (w .0) at (k .3 .1) in
+      let p = accepted-run segwit limits lexemes t a in
+      let e : t ≡ k .0 = one-end segwit (p .0) (k .3 .0) (begin (reverseAux lexemes [])) t (k .0) (p .1) r in
+      (rw e (k .1 ∙ sym (w .1 .1 .1)), rw e (k .2))
+
+  -- What is found has its and_v chains nested to the left
+  pub chains-left : (limits : Limits) (lexemes : List Lexeme) (t : Tree) → Accepts limits lexemes t → leftNested t ≡ true
+  chains-left limits lexemes t a = found-is limits lexemes t t a (accepted-is-written limits lexemes t a) .1
+
+  -- and its type is that of every other well-typed, allowed tree with those lexemes
+  pub one-type : (limits : Limits) (lexemes : List Lexeme) (t u : Tree) → Accepts limits lexemes t → WrittenWith lexemes u → typeOf segwit t ≡ typeOf segwit u
+  one-type limits lexemes t u a w = found-is limits lexemes t u a w .0
+
+  -- At most eight steps a token and two
+  pub steps-at-most : (limits : Limits) (lexemes : List Lexeme) → decode segwit limits lexemes .steps ≤ 8 * length lexemes + 2
+  steps-at-most limits lexemes = decode-steps segwit limits lexemes
+
+  -- The steps are the entries taken: before each there is an entry on the work list, and after the last the run has ended in the verdict
+  pub steps-are-entries-taken : (limits : Limits) (lexemes : List Lexeme)
+      → let r = decode segwit limits lexemes in let first = start segwit limits (reverseAux lexemes []) in
+      Ended segwit limits (after segwit limits (r .steps) first) (r .verdict) × ((i : ℕ) → i < r .steps → Working segwit limits (after segwit limits i first))
+  steps-are-entries-taken limits lexemes =
+      let c = decode-counts segwit limits lexemes in
+      let e : decode segwit limits lexemes .steps ≡ c .0 = omega (arith, c .1) in
+      (rw e (c .2 .0), λ i h. c .2 .1 i (omega arith))
+
+  -- In every state of a run over t tokens, the work list has at most 8t + 2 entries, the finished trees have at most 2t nodes, and no more keys than there are pushes
+  pub room-by-tokens : (limits : Limits) (lexemes : List Lexeme) (m : ℕ) (s : State) → after segwit limits m (start segwit limits (reverseAux lexemes [])) ≡ goes s
+      → (length (s .work) ≤ 8 * length lexemes + 2) × (sizes (s .done) ≤ 2 * length lexemes) × (keyCounts (s .done) ≤ pushes lexemes)
+  room-by-tokens limits lexemes m s e =
+      let b : Bounded (length lexemes) (pushes lexemes) (0 + m) (goes s) = rw e at (decode-bounded segwit limits lexemes m) in
+      (omega (arith, b .0, work-le (s .work) (s .left)), omega (arith, b .1), omega (arith, b .2))
+
+  -- A row never finds too few finished trees, and the run always ends: every refusal has a number from 9 to 19
+  pub never-empty : (limits : Limits) (lexemes : List Lexeme) (r : Refusal) → decode segwit limits lexemes .verdict ≡ refused r → within 9 (r .number) 19 ≡ true
+  never-empty limits lexemes r e = let h : Ends segwit lexemes (refused r) = rw e at (decode-ends segwit limits lexemes) in h
+
+  -- With ample tables 15, 16 and 17 are never given: t tokens want 8t + 2 work entries, 2t nodes, and a key for each push
+  pub ample-never-refuses : (limits : Limits) (lexemes : List Lexeme) → Ample limits (length lexemes) (pushes lexemes) → (r : Refusal) → decode segwit limits lexemes .verdict ≡ refused r
+      → (within 9 (r .number) 14 || within 18 (r .number) 19) ≡ true
+  ample-never-refuses limits lexemes h r e = let g : EndsAmple segwit limits (refused r) = rw e at (decode-ample segwit limits lexemes h) in g
+
+  -- A higher bound on the run changes nothing
+  pub more-changes-nothing : (limits : Limits) (lexemes : List Lexeme) (extra : ℕ) → carryOn segwit limits (extra + (8 * length lexemes + 2)) 0 (start segwit limits (reverseAux lexemes [])) ≡ decode segwit limits lexemes
+  unfolding decode
+  more-changes-nothing limits lexemes zero = let z : 0 + (8 * length lexemes + 2) ≡ 8 * length lexemes + 2 = omega arith in rw z
+  more-changes-nothing limits lexemes (suc extra) =
+      let z : suc extra + (8 * length lexemes + 2) ≡ suc (extra + (8 * length lexemes + 2)) = omega arith in
+      rw z (decode-more segwit limits lexemes (extra + (8 * length lexemes + 2)) (omega arith) ∙ more-changes-nothing limits lexemes extra)

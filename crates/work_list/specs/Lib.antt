@@ -1,0 +1,2 @@
+-- The work list over a table of 64-bit numbers.
+pub mod Work
