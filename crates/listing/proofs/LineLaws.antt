@@ -172,13 +172,14 @@ pub line-is-header : (h : Header) (nodes keys : List ℕ) (k : ℕ) → k ≡ 0 
 unfolding lineAt
 line-is-header h nodes keys k e = simp (eq-eqb k 0 e)
 
-pub line-is-node : (h : Header) (nodes keys : List ℕ) (k : ℕ) → (k ≡ 0 → ⊥) → k ≤ h .nodes → nodeLine nodes (k - 1) ≡ lineAt h nodes keys k
+pub line-is-node : (h : Header) (nodes keys : List ℕ) (k : ℕ) {count : ℕ} → count ≡ h .nodes → (k ≡ 0 → ⊥) → k ≤ count → nodeLine nodes (k - 1) ≡ lineAt h nodes keys k
 unfolding lineAt
-line-is-node h nodes keys k n l = simp (ne-eqb k 0 n, le-leb k (h .nodes) l)
+line-is-node h nodes keys k e n l = simp (ne-eqb k 0 n, le-leb k (h .nodes) (omega arith))
 
-pub line-is-key : (h : Header) (nodes keys : List ℕ) (k : ℕ) → (k ≡ 0 → ⊥) → h .nodes < k → keyLine keys (k - 1 - h .nodes) ≡ lineAt h nodes keys k
+pub line-is-key : (h : Header) (nodes keys : List ℕ) (k : ℕ) {count : ℕ} → count ≡ h .nodes → (k ≡ 0 → ⊥) → count < k
+    → keyLine keys (k - 1 - count) ≡ lineAt h nodes keys k
 unfolding lineAt
-line-is-key h nodes keys k n l = simp (ne-eqb k 0 n, lt-leb k (h .nodes) l)
+line-is-key h nodes keys k e n l = simp (ne-eqb k 0 n, lt-leb k (h .nodes) (omega arith), e)
 
 pub line-put : (before : List ℕ) (at : ℕ) {text whole : List ℕ} {p : Put} → text ≡ whole → p ≡ puts before at text → p ≡ puts before at whole
 line-put before at e p = p ∙ ap (λ (t : List ℕ). puts before at t) e

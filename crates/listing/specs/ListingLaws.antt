@@ -7,14 +7,15 @@ use Prim.Native.Nat.{ℕ, zero, suc, _+_, _-_, _*_, _/_, _%_, _^_, _≤_, _<_}
 use native.Mathlib.Nat.{pow-suc, mod-lt, div-add-mod, div-lt-iff-lt-mul}
 use native.Mathlib.Numerals.{add-one}
 use native.Mathlib.Omega.{arith}
-use lib.Dec.{ltb}
-use borrow.Author.Tests.{lt-ltb, le-ltb, ltb-true, ltb-false, le-leb, lt-leb, ne-eqb}
+use lib.Dec.{leb, ltb}
+use lib.ListN.{length}
+use borrow.Author.Tests.{lt-ltb, le-ltb, ltb-true, ltb-false, le-leb, lt-leb, leb-true, ne-eqb}
 use Rattle.tables.specs.Choose.{pick}
 use Rattle.listing.specs.declared.Header.{Header}
 use Rattle.listing.specs.Digits.{glyph, digits}
 use Rattle.listing.specs.Lines.{headerLine, nodeLine, keyLine}
 use Rattle.listing.specs.Listing.{linesFrom, listing, lineAt}
-use Rattle.listing.specs.Output.{Put, put, puts}
+use Rattle.listing.specs.Output.{write, Put, put, puts}
 
 -- what a digit stands for, and digits after a number that was read before them
 abbrev pub glyphValue : ℕ → ℕ
@@ -103,3 +104,11 @@ refusal-is-its-header h nodes keys p q = simp (p, q, append-nil)
 pub one-outcome-of-put : (before : List ℕ) (at : ℕ) (text : List ℕ) {out other : List ℕ} {end otherEnd : ℕ} → put out end ≡ puts before at text
     → put other otherEnd ≡ puts before at text → (out ≡ other) × (end ≡ otherEnd)
 one-outcome-of-put before at text p q = (ap (λ (r : Put). r .out) (p ∙ sym q), ap (λ (r : Put). r .end) (p ∙ sym q))
+
+-- where the text ends lies in the output, if the position did
+pub put-within : (before : List ℕ) (at : ℕ) (text : List ℕ) {out : List ℕ} {end : ℕ} → put out end ≡ puts before at text → at ≤ length before → end ≤ length before
+put-within before at text {out} {end} p h = here (leb (at + length text) (length before)) refl (ap (λ (r : Put). r .end) p)
+  where
+    here : (t : Bool) → leb (at + length text) (length before) ≡ t → end ≡ pick t (put (write before at text) (at + length text)) (put before at) .end → end ≤ length before
+    here true e q = omega (arith, q, leb-true (at + length text) (length before) e)
+    here false e q = omega (arith, q)

@@ -141,24 +141,38 @@ pub fn put_node(out: &mut [u8], at: usize, nodes: &[u32], i: u32) -> usize
 }
 
 // The line of key i, at `at`. Answers where it ends, or `at` if there is no room and nothing was written.
-pub fn put_key(out: &mut [u8], at: usize, keys: &[u32], i: u32) -> usize
+pub fn put_key(out: &mut [u8], at: usize, keys: &[u32], i: usize) -> usize
     ensures { λ r. ⌜ put (now (out .exit)) r ≡ puts (now (out .entry)) at (keyLine (now (keys .entry)) i) ⌝ }
 {
     if !has_room(out.len(), at, KEY_BYTES) {
         return at;
     }
-    put_word(out, at, 8, cell(keys, i as usize), b'\n')
+    put_word(out, at, 8, cell(keys, i), b'\n')
+}
+
+fn long(x: u32) -> usize
+    ensures { λ r. ⌜ r ≡ x ⌝ }
+{
+    x as usize
 }
 
 // Line k of a listing, at `at`: 0 is the header, then come the nodes, then the keys. Answers as the lines do.
-pub fn put_line(out: &mut [u8], at: usize, h: Header, nodes: &[u32], keys: &[u32], k: u32) -> usize
+pub fn put_line(
+    out: &mut [u8],
+    at: usize,
+    h: Header,
+    nodes: &[u32],
+    keys: &[u32],
+    k: usize,
+) -> usize
     ensures { λ r. ⌜ put (now (out .exit)) r ≡ puts (now (out .entry)) at (lineAt h (now (nodes .entry)) (now (keys .entry)) k) ⌝ }
 {
     if k == 0 {
         return put_header(out, at, h);
     }
-    if k <= h.nodes {
-        return put_node(out, at, nodes, k - 1);
+    let count = long(h.nodes);
+    if k <= count {
+        return put_node(out, at, nodes, (k - 1) as u32);
     }
-    put_key(out, at, keys, k - 1 - h.nodes)
+    put_key(out, at, keys, k - 1 - count)
 }
