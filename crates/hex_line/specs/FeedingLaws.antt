@@ -1,6 +1,6 @@
 -- Feeding a line and ending it gives exactly what the line means, the script at the buffer's front; what the buffer held before never matters. Assumes nothing.
 -- Why: after an even number of digits the buffer's front holds the script bytes so far, or there are too many of them; each pair adds one.
-use mathlib.Core.Path.{_≡_, refl, sym, ap, _∙_}
+use mathlib.Core.Path.{_≡_, refl, sym, ap, subst, _∙_}
 use mathlib.Core.Bool.{Bool, true, false, true≢false, _&&_}
 use mathlib.Core.List.{List, [], _∷_, _++_, append-assoc, append-nil, map}
 use Prim.Native.Nat.{ℕ, _+_, _*_, _%_, _≤_, _<_}
@@ -10,10 +10,11 @@ use native.Mathlib.Omega.{arith}
 use lib.Dec.{eqb, leb, ltb}
 use lib.ListN.{length, take, set, length-append, length-set}
 use lib.Seq.{take-suc-set}
-use borrow.Author.Tests.{lt-ltb, le-ltb, ltb-true, ltb-false, le-leb, lt-leb}
+use borrow.Author.Tests.{lt-ltb, le-ltb, ltb-true, ltb-false, le-leb, lt-leb, leb-true}
 use Rattle.tables.specs.Choose.{pick}
 use Rattle.hex_line.specs.declared.Line.{Line}
 use Rattle.hex_line.specs.declared.Line.the-variants.{Nothing, HalfKind, Whole, Half, NotHex}
+use Rattle.hex_line.specs.declared.Meaning.{Meaning}
 use Rattle.hex_line.specs.declared.Meaning.the-variants as meaning
 use Rattle.hex_line.specs.Digits.{digitOf, isDigit, Bytes, bytes, notHex, before, bytesOf}
 use Rattle.hex_line.specs.Meant.{Meant, refused, script, meantBy, lineOf}
@@ -265,3 +266,19 @@ buffer-never-matters line buffer other l m = feeding-a-line line buffer l ∙ sy
 -- `feed` and `end`: two outcomes that meet the contract are the same
 pub one-outcome-of-feed : (b : ℕ) (f : Fed) {r s : Line} {buffer other : List ℕ} → fed r buffer ≡ step b f → fed s other ≡ step b f → (r ≡ s) × (buffer ≡ other)
 one-outcome-of-feed b f p q = (ap (λ (g : Fed). g .line) (p ∙ sym q), ap (λ (g : Fed). g .buffer) (p ∙ sym q))
+
+-- a script that is to be read lies in the buffer
+abbrev Fits : Meaning → Type 0
+Fits (meaning.Refused number) = Unit {0}
+Fits (meaning.Script kind size) = size ≤ 520
+
+ended-fits : (line : Line) → Fits (ended line)
+unfolding ended
+ended-fits Nothing = tt
+ended-fits (HalfKind high) = tt
+ended-fits (Whole kind size) = decide (leb kind 1) (λ e. simp e (decide (leb size 520) (λ s. simp s (leb-true size 520 s)) (λ s. simp s tt))) (λ e. simp e tt)
+ended-fits (Half kind size high) = tt
+ended-fits NotHex = tt
+
+pub script-fits : (line : Line) (kind size : ℕ) {m : Meaning} → m ≡ ended line → m ≡ meaning.Script kind size → size ≤ 520
+script-fits line kind size e p = subst Fits (sym e ∙ p) (ended-fits line)
