@@ -3,7 +3,7 @@ use mathlib.Core.Bool.{Bool, true, false}
 use mathlib.Core.List.{List, [], _∷_}
 use Prim.Native.Nat.{ℕ, _+_, _*_, _%_}
 use lib.Dec.{eqb, leb, ltb}
-use lib.ListN.{take, set}
+use lib.ListN.{length, take, drop, set}
 use Rattle.tables.specs.Choose.{pick}
 use Rattle.hex_line.specs.declared.Line.{Line}
 use Rattle.hex_line.specs.declared.Line.the-variants.{Nothing, HalfKind, Whole, Half, NotHex}
@@ -40,6 +40,23 @@ step byte f = pick (ltb (digitOf byte) 16) (digitFed (digitOf byte) (f .line) (f
 abbrev pub feedAll : List ℕ → Fed → Fed
 feedAll [] f = f
 feedAll (b ∷ rest) f = feedAll rest (step b f)
+
+-- the bytes up to a line feed, 10, or up to the end
+abbrev pub ofLine : List ℕ → List ℕ
+ofLine [] = []
+ofLine (b ∷ rest) = pick (eqb b 10) [] (b ∷ ofLine rest)
+
+-- how far a line has been read, and where in the input that stopped
+pub record Stopped : Type 0 where
+  pub state : Fed
+  pub at : ℕ
+
+abbrev pub stopped : Fed → ℕ → Stopped
+stopped f at = record { state = f; at = at }
+
+-- what the line that goes on at a position of the input does
+unfoldable pub lineFed : List ℕ → ℕ → Fed → Stopped
+lineFed input from f = stopped (feedAll (ofLine (drop from input)) f) (from + length (ofLine (drop from input)))
 
 -- what the line means where it ends
 unfoldable pub ended : Line → Meaning

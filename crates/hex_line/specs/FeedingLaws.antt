@@ -19,7 +19,7 @@ use Rattle.hex_line.specs.declared.Meaning.the-variants as meaning
 use Rattle.hex_line.specs.Digits.{digitOf, isDigit, Bytes, bytes, notHex, before, bytesOf}
 use Rattle.hex_line.specs.Meant.{Meant, refused, script, meantBy, lineOf}
 use Rattle.hex_line.specs.Input.{lastLine, linesFrom, linesOf, inputOf}
-use Rattle.hex_line.specs.Feeding.{Fed, fed, byteOf, digitFed, step, feedAll, ended, told, toldOf, untouched, toldAll}
+use Rattle.hex_line.specs.Feeding.{Fed, fed, byteOf, digitFed, step, feedAll, Stopped, stopped, lineFed, ended, told, toldOf, untouched, toldAll}
 
 -- by the two values of a test
 decide : {P : Type 0} (b : Bool) → (b ≡ true → P) → (b ≡ false → P) → P
@@ -282,3 +282,8 @@ ended-fits NotHex = tt
 
 pub script-fits : (line : Line) (kind size : ℕ) {m : Meaning} → m ≡ ended line → m ≡ meaning.Script kind size → size ≤ 520
 script-fits line kind size e p = subst Fits (sym e ∙ p) (ended-fits line)
+
+-- a line is read forward
+pub stops-behind : (input : List ℕ) (from : ℕ) (f : Fed) {g : Fed} {at : ℕ} → stopped g at ≡ lineFed input from f → from ≤ at
+unfolding lineFed
+stops-behind input from f e = omega (arith, ap (λ (s : Stopped). s .at) e)

@@ -1,8 +1,9 @@
 // What a line of hexadecimal means, read byte by byte, however long the line is: document 01, section "Program".
 ghost use mathlib.Core.Path.{_≡_};
-ghost use Prim.Native.Nat.{_+_, _*_, _%_};
+ghost use Prim.Native.Nat.{_+_, _*_, _%_, min};
+ghost use lib.ListN.{take};
 ghost use Rattle.hex_line.specs.Digits.{digitOf};
-ghost use Rattle.hex_line.specs.Feeding.{fed, step, ended, untouched};
+ghost use Rattle.hex_line.specs.Feeding.{fed, step, stopped, lineFed, ended, untouched};
 
 // The most script bytes that a line may have.
 pub const SCRIPT_BYTES: usize = 520;
@@ -77,6 +78,36 @@ pub fn feed(line: Line, byte: u8, script: &mut [u8; 520]) -> Line
         }
         Line::NotHex => Line::NotHex,
     }
+}
+
+// How far a line has been read, and where in the input the reading stopped.
+pub struct Stop {
+    pub line: Line,
+    pub at: usize,
+}
+
+fn least(a: usize, b: usize) -> usize
+    ensures { λ r. ⌜ r ≡ min a b ⌝ }
+{
+    if a < b { a } else { b }
+}
+
+// The bytes of an input from `from` on, up to a line feed, which isn't fed, or up to `to` or the input's end.
+pub fn feed_line(line: Line, input: &[u8], from: usize, to: usize, script: &mut [u8; 520]) -> Stop
+    ensures { λ r. ⌜ stopped (fed (r .line) (now (script .exit))) (r .at) ≡ lineFed (take to (now (input .entry))) from (fed line (now (script .entry))) ⌝ }
+{
+    let end = least(to, input.len());
+    let mut read = line;
+    let mut at = from;
+    while at < end {
+        let byte = input[at];
+        if byte == b'\n' {
+            return Stop { line: read, at };
+        }
+        read = feed(read, byte, script);
+        at += 1;
+    }
+    Stop { line: read, at }
 }
 
 fn wide(x: u8) -> u32
