@@ -7,13 +7,14 @@ use Prim.Native.Nat.{ℕ, zero, suc, _+_, _-_, _*_, _/_, _%_, _^_, _≤_, _<_}
 use native.Mathlib.Nat.{pow-suc, mod-lt, div-add-mod, div-lt-iff-lt-mul}
 use native.Mathlib.Numerals.{add-one}
 use native.Mathlib.Omega.{arith}
-use lib.Dec.{leb, ltb}
-use lib.ListN.{length}
+use lib.Dec.{eqb, leb, ltb}
+use lib.ListN.{length, take, drop, length-append}
+use lib.Seq.{take-at, length-take-le}
 use borrow.Author.Tests.{lt-ltb, le-ltb, ltb-true, ltb-false, le-leb, lt-leb, leb-true, ne-eqb}
 use Rattle.tables.specs.Choose.{pick}
 use Rattle.listing.specs.declared.Header.{Header}
 use Rattle.listing.specs.Digits.{glyph, digits}
-use Rattle.listing.specs.Lines.{headerLine, nodeLine, keyLine}
+use Rattle.listing.specs.Lines.{headerLine, typeWord, nodeLine, keyLine}
 use Rattle.listing.specs.Listing.{linesFrom, listing, lineAt}
 use Rattle.listing.specs.Output.{write, Put, put, puts}
 
@@ -112,3 +113,41 @@ put-within before at text {out} {end} p h = here (leb (at + length text) (length
     here : (t : Bool) → leb (at + length text) (length before) ≡ t → end ≡ pick t (put (write before at text) (at + length text)) (put before at) .end → end ≤ length before
     here true e q = omega (arith, q, leb-true (at + length text) (length before) e)
     here false e q = omega (arith, q)
+
+-- a text that fits is put behind what stands before it
+pub put-fits : (before : List ℕ) (at : ℕ) (text : List ℕ) {out : List ℕ} {end : ℕ} → at + length text ≤ length before → put out end ≡ puts before at text
+    → (end ≡ at + length text) × (take end out ≡ take at before ++ text)
+unfolding write
+put-fits before at text {out} {end} h p =
+    let f : puts before at text ≡ put (write before at text) (at + length text) = simp (le-leb (at + length text) (length before) h) in
+    let e : end ≡ at + length text = ap (λ (r : Put). r .end) (p ∙ f) in
+    let l : length (take at before ++ text) ≡ at + length text = length-append (take at before) text ∙ ap (λ (k : ℕ). k + length text) (length-take-le at before (omega arith)) in (
+      e,
+      ap (λ (o : List ℕ). take end o) (ap (λ (r : Put). r .out) (p ∙ f))
+          ∙ ap (λ (k : ℕ). take k ((take at before ++ text) ++ drop (at + length text) before)) e
+          ∙ take-at (take at before ++ text) (drop (at + length text) before) (at + length text) l,
+    )
+
+-- a position that has moved says that the text fitted
+pub put-moved : (before : List ℕ) (at : ℕ) (text : List ℕ) {out : List ℕ} {end : ℕ} → (end ≡ at → ⊥) → put out end ≡ puts before at text → at + length text ≤ length before
+put-moved before at text {out} {end} n p = here (leb (at + length text) (length before)) refl (ap (λ (r : Put). r .end) p)
+  where
+    here : (t : Bool) → leb (at + length text) (length before) ≡ t → end ≡ pick t (put (write before at text) (at + length text)) (put before at) .end → at + length text ≤ length before
+    here true e q = leb-true (at + length text) (length before) e
+    here false e q = absurd (n q)
+
+-- one line more
+pub lines-next : (f : ℕ → List ℕ) (k : ℕ) → linesFrom f 0 (k + 1) ≡ linesFrom f 0 k ++ f k
+lines-next f k =
+    let z : 0 + k ≡ k = omega arith in
+    lines-more f 0 k 1 ∙ ap (λ (j : ℕ). linesFrom f 0 k ++ (f j ++ [])) z ∙ ap (λ (l : List ℕ). linesFrom f 0 k ++ l) (append-nil (f k))
+
+-- no line has more than 51 bytes
+pub line-short : (h : Header) (nodes keys : List ℕ) (k : ℕ) → length (lineAt h nodes keys k) ≤ 51
+unfolding lineAt headerLine nodeLine typeWord keyLine
+line-short h nodes keys k = here (eqb k 0) (leb k (h .nodes))
+  where
+    here : (s t : Bool) → length (pick s (headerLine h) (pick t (nodeLine nodes (k - 1)) (keyLine keys (k - 1 - h .nodes)))) ≤ 51
+    here true t = omega arith
+    here false true = omega arith
+    here false false = omega arith
