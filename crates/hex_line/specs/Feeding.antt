@@ -86,3 +86,12 @@ untouched NotHex = false
 abbrev pub toldAll : Fed → List ℕ → List Meant
 toldAll f [] = pick (untouched (f .line)) [] (toldOf f ∷ [])
 toldAll f (b ∷ rest) = pick (eqb b 10) (toldOf f ∷ toldAll (fed Nothing (f .buffer)) rest) (toldAll (step b f) rest)
+
+-- a part of an input: the lines that end in it, and how far the last line has been read then
+abbrev pub toldIn : Fed → List ℕ → List Meant
+toldIn f [] = []
+toldIn f (b ∷ rest) = pick (eqb b 10) (toldOf f ∷ toldIn (fed Nothing (f .buffer)) rest) (toldIn (step b f) rest)
+
+abbrev pub leftBy : Fed → List ℕ → Fed
+leftBy f [] = f
+leftBy f (b ∷ rest) = pick (eqb b 10) (leftBy (fed Nothing (f .buffer)) rest) (leftBy (step b f) rest)

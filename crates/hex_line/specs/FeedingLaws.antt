@@ -3,12 +3,12 @@
 use mathlib.Core.Path.{_≡_, refl, sym, ap, subst, _∙_}
 use mathlib.Core.Bool.{Bool, true, false, true≢false, _&&_}
 use mathlib.Core.List.{List, [], _∷_, _++_, append-assoc, append-nil, map}
-use Prim.Native.Nat.{ℕ, _+_, _*_, _%_, _≤_, _<_}
+use Prim.Native.Nat.{ℕ, suc, _+_, _*_, _%_, _≤_, _<_}
 use native.Mathlib.Nat.{mod-eq-of-lt}
 use native.Mathlib.Numerals.{add-one}
 use native.Mathlib.Omega.{arith}
 use lib.Dec.{eqb, leb, ltb}
-use lib.ListN.{length, take, set, length-append, length-set}
+use lib.ListN.{length, take, drop, set, length-append, length-set}
 use lib.Seq.{take-suc-set}
 use borrow.Author.Tests.{lt-ltb, le-ltb, ltb-true, ltb-false, le-leb, lt-leb, leb-true}
 use Rattle.tables.specs.Choose.{pick}
@@ -19,7 +19,7 @@ use Rattle.hex_line.specs.declared.Meaning.the-variants as meaning
 use Rattle.hex_line.specs.Digits.{digitOf, isDigit, Bytes, bytes, notHex, before, bytesOf}
 use Rattle.hex_line.specs.Meant.{Meant, refused, script, meantBy, lineOf}
 use Rattle.hex_line.specs.Input.{lastLine, linesFrom, linesOf, inputOf}
-use Rattle.hex_line.specs.Feeding.{Fed, fed, byteOf, digitFed, step, feedAll, Stopped, stopped, lineFed, ended, told, toldOf, untouched, toldAll}
+use Rattle.hex_line.specs.Feeding.{Fed, fed, byteOf, digitFed, step, feedAll, Stopped, stopped, lineFed, ended, told, toldOf, untouched, toldAll, ofLine, toldIn, leftBy}
 
 -- by the two values of a test
 decide : {P : Type 0} (b : Bool) → (b ≡ true → P) → (b ≡ false → P) → P
@@ -287,3 +287,34 @@ script-fits line kind size e p = subst Fits (sym e ∙ p) (ended-fits line)
 pub stops-behind : (input : List ℕ) (from : ℕ) (f : Fed) {g : Fed} {at : ℕ} → stopped g at ≡ lineFed input from f → from ≤ at
 unfolding lineFed
 stops-behind input from f e = omega (arith, ap (λ (s : Stopped). s .at) e)
+
+-- THEOREM: an input may come in parts, cut anywhere
+pub input-in-parts : (front rest : List ℕ) (f : Fed) → toldAll f (front ++ rest) ≡ toldIn f front ++ toldAll (leftBy f front) rest
+input-in-parts [] rest f = refl
+input-in-parts (b ∷ front) rest f =
+    decide (eqb b 10)
+    (λ e. simp (e, input-in-parts front rest (fed Nothing (f .buffer))))
+    (λ e. simp (e, input-in-parts front rest (step b f)))
+
+-- a part in which the line doesn't end
+pub line-goes-on : (part : List ℕ) (f : Fed) → length part ≤ length (ofLine part) → (toldIn f part ≡ []) × (leftBy f part ≡ feedAll (ofLine part) f)
+line-goes-on [] f h = (refl, refl)
+line-goes-on (b ∷ rest) f h =
+    decide (eqb b 10)
+    (λ e. absurd (omega (arith, simp e at h)))
+    (λ e.
+    let shorter : length rest ≤ length (ofLine rest) = omega (arith, simp e at h) in
+    let more : (toldIn (step b f) rest ≡ []) × (leftBy (step b f) rest ≡ feedAll (ofLine rest) (step b f)) = line-goes-on rest (step b f) shorter in
+    (simp e (more .0), simp e (more .1)))
+
+-- a part in which the line ends: it is told, and the next begins behind its line feed
+pub line-ends : (part : List ℕ) (f : Fed) → length (ofLine part) < length part
+    → (toldIn f part ≡ toldOf (feedAll (ofLine part) f) ∷ toldIn (fed Nothing (feedAll (ofLine part) f .buffer)) (drop (suc (length (ofLine part))) part))
+    × (leftBy f part ≡ leftBy (fed Nothing (feedAll (ofLine part) f .buffer)) (drop (suc (length (ofLine part))) part))
+line-ends [] f h = absurd (omega arith)
+line-ends (b ∷ rest) f h =
+    decide (eqb b 10)
+    (λ e. (simp e, simp e))
+    (λ e.
+    let shorter : length (ofLine rest) < length rest = omega (arith, simp e at h) in
+    (simp e (line-ends rest (step b f) shorter .0), simp e (line-ends rest (step b f) shorter .1)))
