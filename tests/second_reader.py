@@ -1,5 +1,6 @@
 #!/usr/bin/env python3
-"""A second reader, written from document 01 alone and apart from the proved one: what the program has to write.
+"""A second reader, apart from the proved one: what the program has to write. Orders, numbers, places and limits are document 01's; the rows and the
+type rules follow decode.rs and correctness.rs, so its agreement with the crate's text there is no second opinion on them.
 
     second_reader.py < lines > listings
 
