@@ -1,0 +1,54 @@
+-- `desk::run` meets its contract. The measure is the number of turns left. Assumes nothing.
+use borrow.Author.Needs.{needs}
+use native.Mathlib.Omega.{arith}
+use Rattle.desk.proofs.run.Statement.{statement}
+use Rattle.desk.proofs.run.Tie as tie
+
+abbrev Inv-loop : tie.InvT-loop
+Inv-loop input₀ script₀ tokens₀ nodes₀ keys₀ work₀ out₀ line₀ turns₀ input script tokens nodes keys work out line turns = Unit {0}
+
+abbrev μ-loop : tie.MeasureT-loop
+μ-loop input₀ script₀ tokens₀ nodes₀ keys₀ work₀ out₀ line₀ turns₀ input script tokens nodes keys work out line turns = turns
+
+loop-holds : tie.Need-loop-holds Inv-loop μ-loop
+loop-holds c = search needs
+
+next-requires : tie.Need-next-requires Inv-loop μ-loop
+next-requires c κs = search needs
+
+take-requires : tie.Need-take-requires Inv-loop μ-loop
+take-requires c κs = search needs
+
+returns : tie.Need-returns Inv-loop μ-loop
+returns c = search needs
+
+sub-turns : tie.Need-sub-turns Inv-loop μ-loop
+sub-turns c = search needs
+
+loop-less : tie.Need-loop-less Inv-loop μ-loop
+loop-less c = search needs
+
+loop-again : tie.Need-loop-again Inv-loop μ-loop
+loop-again c = search needs
+
+finish-requires : tie.Need-finish-requires Inv-loop μ-loop
+finish-requires c κs = search needs
+
+returns-2 : tie.Need-returns-2 Inv-loop μ-loop
+returns-2 c = search needs
+
+pub run-spec : {M : Type 1} → statement M
+run-spec =
+    tie.close
+    (tie.spec
+    Inv-loop
+    μ-loop
+    loop-holds
+    next-requires
+    take-requires
+    returns
+    sub-turns
+    loop-less
+    loop-again
+    finish-requires
+    returns-2)

@@ -1,0 +1,278 @@
+// The desk's working loop: lines of hexadecimal from standard input, listings to standard output (document 01, section "Program").
+//
+// What a line means is proved in `hex_line`, what a script is read to in `decode`, the bytes of a listing in `listing`. This crate adds
+// the system calls and the tables, in a library, so that a program of the repository is one call of `run` over a list of its own.
+//
+// The bytes that the desk holds, all on the stack:
+//   tokens  1,040 of 3 numbers of 4 bytes   12,480
+//   nodes     512 of 9 numbers of 4 bytes   18,432
+//   keys      128 numbers of 4 bytes           512
+//   work    1,024 numbers of 8 bytes         8,192
+//   script                                     520
+//   input                                    4,096
+//   output                                   8,192
+//   io::write_all, while a write is cut short 4,096
+//   in all                                  56,520, under 64 KiB (65,536)
+ghost use mathlib.Core.Path.{_≡_};
+ghost use Prim.Native.Nat.{_≤_};
+ghost use lib.ListN.{length};
+use decode::Answer;
+use hex_line::Line;
+use hex_line::Meaning;
+use libc::STDERR_FILENO;
+use libc::STDIN_FILENO;
+use libc::STDOUT_FILENO;
+use listing::Header;
+
+// How much waits in an output whose last write failed: nothing more is written then, so that no listing is missing between others.
+const CLOSED: usize = 8193;
+
+// How far the last line has been read, and whether the output is still open.
+struct Taken {
+    line: Line,
+    is_open: bool,
+}
+
+// Writes what waits in the output, and answers whether it is still open. A write that is cut short goes on; one that fails is told on
+// standard error.
+fn flush(out: &[u8; 8192], used: usize) -> bool
+    requires { ⌜ used ≤ 8193 ⌝ }
+{
+    if used == CLOSED {
+        return false;
+    }
+    if write_front(out, used) {
+        return true;
+    }
+    io::write_all(STDERR_FILENO, b"a write failed: the listings end here\n");
+    false
+}
+
+// The first `used` bytes of the output, written.
+fn write_front(out: &[u8], used: usize) -> bool
+    requires { ⌜ used ≤ length (now out) ⌝ }
+{
+    io::write_all(STDOUT_FILENO, &out[..used])
+}
+
+// Line k of a listing, behind what waits in the output; if it doesn't fit there, what waits is written first.
+fn put(
+    out: &mut [u8; 8192],
+    used: usize,
+    h: Header,
+    nodes: &[u32; 4608],
+    keys: &[u32; 128],
+    k: usize,
+) -> usize
+    requires { ⌜ used ≤ 8193 ⌝ }
+    ensures { λ r. ⌜ r ≤ 8193 ⌝ }
+{
+    if used == CLOSED {
+        return CLOSED;
+    }
+    let next = listing::put_line(out, used, h, nodes, keys, k);
+    if next != used {
+        return next;
+    }
+    if !flush(out, used) {
+        return CLOSED;
+    }
+    listing::put_line(out, 0, h, nodes, keys, k)
+}
+
+fn long(x: u32) -> usize
+    ensures { λ r. ⌜ r ≡ x ⌝ }
+{
+    x as usize
+}
+
+// All lines of a listing, behind what waits in the output.
+fn lay_out(
+    out: &mut [u8; 8192],
+    used: usize,
+    h: Header,
+    nodes: &[u32; 4608],
+    keys: &[u32; 128],
+) -> usize
+    requires { ⌜ used ≤ 8193 ⌝ }
+    ensures { λ r. ⌜ r ≤ 8193 ⌝ }
+{
+    let lines = 1 + long(h.nodes) + long(h.keys);
+    let mut at = used;
+    let mut k = 0;
+    while k < lines {
+        at = put(out, at, h, nodes, keys, k);
+        k += 1;
+    }
+    at
+}
+
+// The header of a line that is refused before it is read.
+fn refused(number: u32) -> Header {
+    Header {
+        number,
+        reason: 0,
+        place: 0,
+        tokens: 0,
+        steps: 0,
+        nodes: 0,
+        keys: 0,
+    }
+}
+
+fn answered(a: Answer) -> Header {
+    Header {
+        number: a.number,
+        reason: a.reason,
+        place: a.place,
+        tokens: a.tokens,
+        steps: a.steps,
+        nodes: a.nodes,
+        keys: a.keys,
+    }
+}
+
+// The first `size` bytes of the script buffer, read.
+fn read_front(
+    kind: u32,
+    script: &[u8],
+    size: usize,
+    tokens: &mut [u32],
+    nodes: &mut [u32],
+    keys: &mut [u32],
+    work: &mut [u64],
+) -> Answer
+    requires { ⌜ size ≤ length (now script) ⌝ }
+{
+    decode::read(kind, &script[..size], tokens, nodes, keys, work)
+}
+
+// A line has ended: it is refused, or its script is read; its listing goes behind what waits in the output.
+fn answer(
+    line: Line,
+    script: &[u8; 520],
+    tokens: &mut [u32; 3120],
+    nodes: &mut [u32; 4608],
+    keys: &mut [u32; 128],
+    work: &mut [u64; 1024],
+    out: &mut [u8; 8192],
+    used: usize,
+) -> usize
+    requires { ⌜ used ≤ 8193 ⌝ }
+    ensures { λ r. ⌜ r ≤ 8193 ⌝ }
+{
+    let meaning = hex_line::end(line);
+    match meaning {
+        Meaning::Refused(number) => lay_out(out, used, refused(number), nodes, keys),
+        Meaning::Script { kind, size } => {
+            let a = read_front(kind, script, size, tokens, nodes, keys, work);
+            lay_out(out, used, answered(a), nodes, keys)
+        }
+    }
+}
+
+// The next bytes of standard input, as many as one read gives; 0 at its end. A read that fails ends the input too.
+fn next(input: &mut [u8; 4096]) -> usize
+    ensures { λ r. ⌜ r ≤ 4096 ⌝ }
+{
+    let got = libc::read(STDIN_FILENO, input);
+    io::count(got, input)
+}
+
+// The first n bytes of the input, which may end anywhere in a line. What their lines ask for is written before more is read.
+fn take(
+    line: Line,
+    input: &[u8; 4096],
+    n: usize,
+    script: &mut [u8; 520],
+    tokens: &mut [u32; 3120],
+    nodes: &mut [u32; 4608],
+    keys: &mut [u32; 128],
+    work: &mut [u64; 1024],
+    out: &mut [u8; 8192],
+) -> Taken
+    requires { ⌜ n ≤ 4096 ⌝ }
+{
+    let mut read = line;
+    let mut used = 0;
+    let mut i = 0;
+    while i < n {
+        let stop = hex_line::feed_line(read, input, i, n, script);
+        let at = stop.at;
+        let fed = stop.line;
+        if n <= at {
+            return after(fed, flush(out, used));
+        }
+        used = answer(fed, script, tokens, nodes, keys, work, out, used);
+        read = Line::Nothing;
+        i = at + 1;
+    }
+    after(read, flush(out, used))
+}
+
+fn after(line: Line, is_open: bool) -> Taken {
+    Taken { line, is_open }
+}
+
+// The end of the input: bytes after the last line feed are a line, nothing there is none.
+fn finish(
+    line: Line,
+    script: &[u8; 520],
+    tokens: &mut [u32; 3120],
+    nodes: &mut [u32; 4608],
+    keys: &mut [u32; 128],
+    work: &mut [u64; 1024],
+    out: &mut [u8; 8192],
+) {
+    if hex_line::is_nothing(line) {
+        return;
+    }
+    let used = answer(line, script, tokens, nodes, keys, work, out, 0);
+    flush(out, used);
+}
+
+// Answers standard input line by line to its end.
+//
+// A proved loop has to end, and nothing says that an input does. So the loop counts its turns down, from a number that no run uses up.
+pub fn run() {
+    let mut input = [0u8; 4096];
+    let mut script = [0u8; 520];
+    let mut tokens = [0u32; 3120];
+    let mut nodes = [0u32; 4608];
+    let mut keys = [0u32; 128];
+    let mut work = [0u64; 1024];
+    let mut out = [0u8; 8192];
+    let mut line = Line::Nothing;
+    let mut turns = u64::MAX;
+    while turns > 0 {
+        let n = next(&mut input);
+        if n == 0 {
+            break;
+        }
+        let taken = take(
+            line,
+            &input,
+            n,
+            &mut script,
+            &mut tokens,
+            &mut nodes,
+            &mut keys,
+            &mut work,
+            &mut out,
+        );
+        line = taken.line;
+        if !taken.is_open {
+            return;
+        }
+        turns -= 1;
+    }
+    finish(
+        line,
+        &script,
+        &mut tokens,
+        &mut nodes,
+        &mut keys,
+        &mut work,
+        &mut out,
+    );
+}
