@@ -16,6 +16,8 @@
 ghost use mathlib.Core.Path.{_≡_};
 ghost use Prim.Native.Nat.{_≤_};
 ghost use lib.ListN.{length};
+ghost use Rattle.listing.specs.Listing.{listing, lineAt};
+ghost use Rattle.desk.specs.Waiting.{Adds};
 use decode::Answer;
 use hex_line::Line;
 use hex_line::Meaning;
@@ -65,7 +67,7 @@ fn put(
     k: usize,
 ) -> usize
     requires { ⌜ used ≤ 8193 ⌝ }
-    ensures { λ r. ⌜ r ≤ 8193 ⌝ }
+    ensures { λ r. ⌜ (r ≤ 8193) × Adds (lineAt h (now (nodes .entry)) (now (keys .entry)) k) (now (out .entry)) used (now (out .exit)) r ⌝ }
 {
     if used == CLOSED {
         return CLOSED;
@@ -95,7 +97,7 @@ fn lay_out(
     keys: &[u32; 128],
 ) -> usize
     requires { ⌜ used ≤ 8193 ⌝ }
-    ensures { λ r. ⌜ r ≤ 8193 ⌝ }
+    ensures { λ r. ⌜ (r ≤ 8193) × Adds (listing h (now (nodes .entry)) (now (keys .entry))) (now (out .entry)) used (now (out .exit)) r ⌝ }
 {
     let lines = 1 + long(h.nodes) + long(h.keys);
     let mut at = used;

@@ -1,0 +1,2 @@
+-- What waits in the desk's output.
+pub mod Waiting
