@@ -7,7 +7,14 @@ use lib.ListN.{length, take}
 use Rattle.listing.specs.declared.Header.{Header}
 use Rattle.listing.specs.Output.{put, puts}
 use Rattle.listing.specs.Listing.{linesFrom, listing, lineAt}
-use Rattle.listing.specs.ListingLaws.{put-within, put-fits, put-moved, lines-next, line-short, listing-is-its-lines}
+use Rattle.listing.specs.ListingLaws.{put-within, put-fits, put-moved, lines-next, line-short, listing-is-its-lines, refusal-is-its-header}
+use Rattle.hex_line.specs.declared.Line.{Line}
+use Rattle.hex_line.specs.declared.Meaning.{Meaning}
+use Rattle.hex_line.specs.declared.Meaning.the-variants as meaning
+use Rattle.hex_line.specs.Feeding.{fed, ended, told, toldOf}
+use Rattle.decode.specs.declared.Answer.{Answer}
+use Rattle.decode.specs.Read.{Outcome, outcome, readOf}
+use Rattle.desk.specs.Program.{headerOf, refusalOf, outcomeText, textOf}
 use Rattle.desk.specs.Waiting.{Waits, closed, waits, Adds}
 
 -- `at` may be one past the size, which says that the output is closed, but isn't here
@@ -56,3 +63,28 @@ pub listing-added : (h : Header) (nodes keys : List ℕ) (k lines : ℕ) (before
 listing-added h nodes keys k lines before used out at p q e a all w =
     let n : k ≡ suc (h .nodes + h .keys) = omega arith in
     subst (λ (t : List ℕ). Waits (all ++ t) out at) (ap (linesFrom (lineAt h nodes keys) 0) n ∙ listing-is-its-lines h nodes keys) (a all w)
+
+-- a refused line
+pub refused-text : (line : Line) (buffer nodes keys : List ℕ) (number : ℕ) {m : Meaning} {h : Header} → m ≡ ended line → m ≡ meaning.Refused number → h ≡ refusalOf number
+    → listing h nodes keys ≡ textOf (toldOf (fed line buffer))
+refused-text line buffer nodes keys number {m} {h} e p q =
+    ap (λ (x : Header). listing x nodes keys) q
+    ∙ refusal-is-its-header (refusalOf number) nodes keys refl refl
+    ∙ ap (λ (x : Meaning). textOf (told x buffer)) (sym p ∙ e)
+
+-- a script that was read
+pub read-text : (line : Line) (buffer : List ℕ) (kind size : ℕ) (tokens nodes keys work : List ℕ) (a : Answer) {m : Meaning} {h : Header} → m ≡ ended line
+    → m ≡ meaning.Script kind size → outcome a tokens nodes keys work ≡ readOf kind (take size buffer) 3120 4608 128 1024 → h ≡ headerOf a
+    → listing h nodes keys ≡ textOf (toldOf (fed line buffer))
+read-text line buffer kind size tokens nodes keys work a {m} {h} e p r q =
+    ap (λ (x : Header). listing x nodes keys) q
+    ∙ ap outcomeText r
+    ∙ ap (λ (x : Meaning). textOf (told x buffer)) (sym p ∙ e)
+
+pub text-added : (text other before : List ℕ) (used : ℕ) (out : List ℕ) (end : ℕ) → text ≡ other → Adds text before used out end → Adds other before used out end
+text-added text other before used out end e a = subst (λ (t : List ℕ). Adds t before used out end) e a
+
+-- the program's tables have these lengths
+pub read-sized : (kind : ℕ) (bytes tokens nodes keys work : List ℕ) {o : Outcome} → 3120 ≡ length tokens → 4608 ≡ length nodes → 128 ≡ length keys → 1024 ≡ length work
+    → o ≡ readOf kind bytes (length tokens) (length nodes) (length keys) (length work) → o ≡ readOf kind bytes 3120 4608 128 1024
+read-sized kind bytes tokens nodes keys work t n k w e = e ∙ simp (← t, ← n, ← k, ← w)

@@ -1,2 +1,4 @@
--- What waits in the desk's output.
+-- What the program writes, and what of it waits in the output.
+pub mod Program
 pub mod Waiting
+pub mod ProgramLaws

@@ -15,8 +15,12 @@
 //   in all                                  56,520, under 64 KiB (65,536)
 ghost use mathlib.Core.Path.{_≡_};
 ghost use Prim.Native.Nat.{_≤_};
-ghost use lib.ListN.{length};
+ghost use mathlib.Core.List.{[]};
+ghost use lib.ListN.{length, take};
 ghost use Rattle.listing.specs.Listing.{listing, lineAt};
+ghost use Rattle.decode.specs.Read.{outcome, readOf};
+ghost use Rattle.hex_line.specs.Feeding.{fed, toldOf, toldAll, toldIn, leftBy};
+ghost use Rattle.desk.specs.Program.{headerOf, refusalOf, textOf, textsOf};
 ghost use Rattle.desk.specs.Waiting.{Adds};
 use decode::Answer;
 use hex_line::Line;
@@ -29,10 +33,10 @@ use listing::Header;
 // How much waits in an output whose last write failed: nothing more is written then, so that no listing is missing between others.
 const CLOSED: usize = 8193;
 
-// How far the last line has been read, and whether the output is still open.
+// How far the last line has been read, and how much waits in the output.
 struct Taken {
     line: Line,
-    is_open: bool,
+    used: usize,
 }
 
 // Writes what waits in the output, and answers whether it is still open. A write that is cut short goes on; one that fails is told on
@@ -110,7 +114,9 @@ fn lay_out(
 }
 
 // The header of a line that is refused before it is read.
-fn refused(number: u32) -> Header {
+fn refused(number: u32) -> Header
+    ensures { λ r. ⌜ r ≡ refusalOf number ⌝ }
+{
     Header {
         number,
         reason: 0,
@@ -122,7 +128,9 @@ fn refused(number: u32) -> Header {
     }
 }
 
-fn answered(a: Answer) -> Header {
+fn answered(a: Answer) -> Header
+    ensures { λ r. ⌜ r ≡ headerOf a ⌝ }
+{
     Header {
         number: a.number,
         reason: a.reason,
@@ -145,6 +153,7 @@ fn read_front(
     work: &mut [u64],
 ) -> Answer
     requires { ⌜ size ≤ length (now script) ⌝ }
+    ensures { λ r. ⌜ outcome r (now (tokens .exit)) (now (nodes .exit)) (now (keys .exit)) (now (work .exit)) ≡ readOf kind (take size (now (script .entry))) (length (now (tokens .entry))) (length (now (nodes .entry))) (length (now (keys .entry))) (length (now (work .entry))) ⌝ }
 {
     decode::read(kind, &script[..size], tokens, nodes, keys, work)
 }
@@ -161,7 +170,7 @@ fn answer(
     used: usize,
 ) -> usize
     requires { ⌜ used ≤ 8193 ⌝ }
-    ensures { λ r. ⌜ r ≤ 8193 ⌝ }
+    ensures { λ r. ⌜ (r ≤ 8193) × Adds (textOf (toldOf (fed line (now (script .entry))))) (now (out .entry)) used (now (out .exit)) r ⌝ }
 {
     let meaning = hex_line::end(line);
     match meaning {
@@ -181,8 +190,8 @@ fn next(input: &mut [u8; 4096]) -> usize
     io::count(got, input)
 }
 
-// The first n bytes of the input, which may end anywhere in a line. What their lines ask for is written before more is read.
-fn take(
+// The first n bytes of the input, which may end anywhere in a line. What its lines are answered with goes into the output, in which nothing waits yet.
+fn receive(
     line: Line,
     input: &[u8; 4096],
     n: usize,
@@ -194,6 +203,7 @@ fn take(
     out: &mut [u8; 8192],
 ) -> Taken
     requires { ⌜ n ≤ 4096 ⌝ }
+    ensures { λ r. ⌜ (r .used ≤ 8193) × (fed (r .line) (now (script .exit)) ≡ leftBy (fed line (now (script .entry))) (take n (now (input .entry)))) × Adds (textsOf (toldIn (fed line (now (script .entry))) (take n (now (input .entry))))) (now (out .entry)) 0 (now (out .exit)) (r .used) ⌝ }
 {
     let mut read = line;
     let mut used = 0;
@@ -203,21 +213,17 @@ fn take(
         let at = stop.at;
         let fed = stop.line;
         if n <= at {
-            return after(fed, flush(out, used));
+            return Taken { line: fed, used };
         }
         used = answer(fed, script, tokens, nodes, keys, work, out, used);
         read = Line::Nothing;
         i = at + 1;
     }
-    after(read, flush(out, used))
+    Taken { line: read, used }
 }
 
-fn after(line: Line, is_open: bool) -> Taken {
-    Taken { line, is_open }
-}
-
-// The end of the input: bytes after the last line feed are a line, nothing there is none.
-fn finish(
+// The end of the input: bytes after the last line feed are a line, nothing there is none. Answers how much waits in the output.
+fn last(
     line: Line,
     script: &[u8; 520],
     tokens: &mut [u32; 3120],
@@ -225,12 +231,13 @@ fn finish(
     keys: &mut [u32; 128],
     work: &mut [u64; 1024],
     out: &mut [u8; 8192],
-) {
+) -> usize
+    ensures { λ r. ⌜ (r ≤ 8193) × Adds (textsOf (toldAll (fed line (now (script .entry))) [])) (now (out .entry)) 0 (now (out .exit)) r ⌝ }
+{
     if hex_line::is_nothing(line) {
-        return;
+        return 0;
     }
-    let used = answer(line, script, tokens, nodes, keys, work, out, 0);
-    flush(out, used);
+    answer(line, script, tokens, nodes, keys, work, out, 0)
 }
 
 // Answers standard input line by line to its end.
@@ -251,7 +258,7 @@ pub fn run() {
         if n == 0 {
             break;
         }
-        let taken = take(
+        let taken = receive(
             line,
             &input,
             n,
@@ -263,12 +270,12 @@ pub fn run() {
             &mut out,
         );
         line = taken.line;
-        if !taken.is_open {
+        if !flush(&out, taken.used) {
             return;
         }
         turns -= 1;
     }
-    finish(
+    let used = last(
         line,
         &script,
         &mut tokens,
@@ -277,4 +284,5 @@ pub fn run() {
         &mut work,
         &mut out,
     );
+    flush(&out, used);
 }
