@@ -240,17 +240,18 @@ fn last(
     answer(line, script, tokens, nodes, keys, work, out, 0)
 }
 
-// Answers standard input line by line to its end.
+// Standard input, part by part to its end, with these tables.
 //
 // A proved loop has to end, and nothing says that an input does. So the loop counts its turns down, from a number that no run uses up.
-pub fn run() {
+fn serve(
+    script: &mut [u8; 520],
+    tokens: &mut [u32; 3120],
+    nodes: &mut [u32; 4608],
+    keys: &mut [u32; 128],
+    work: &mut [u64; 1024],
+    out: &mut [u8; 8192],
+) {
     let mut input = [0u8; 4096];
-    let mut script = [0u8; 520];
-    let mut tokens = [0u32; 3120];
-    let mut nodes = [0u32; 4608];
-    let mut keys = [0u32; 128];
-    let mut work = [0u64; 1024];
-    let mut out = [0u8; 8192];
     let mut line = Line::Nothing;
     let mut turns = u64::MAX;
     while turns > 0 {
@@ -258,31 +259,31 @@ pub fn run() {
         if n == 0 {
             break;
         }
-        let taken = receive(
-            line,
-            &input,
-            n,
-            &mut script,
-            &mut tokens,
-            &mut nodes,
-            &mut keys,
-            &mut work,
-            &mut out,
-        );
+        let taken = receive(line, &input, n, script, tokens, nodes, keys, work, out);
         line = taken.line;
-        if !flush(&out, taken.used) {
+        if !flush(out, taken.used) {
             return;
         }
         turns -= 1;
     }
-    let used = last(
-        line,
-        &script,
+    let used = last(line, script, tokens, nodes, keys, work, out);
+    flush(out, used);
+}
+
+// Answers standard input line by line to its end.
+pub fn run() {
+    let mut script = [0u8; 520];
+    let mut tokens = [0u32; 3120];
+    let mut nodes = [0u32; 4608];
+    let mut keys = [0u32; 128];
+    let mut work = [0u64; 1024];
+    let mut out = [0u8; 8192];
+    serve(
+        &mut script,
         &mut tokens,
         &mut nodes,
         &mut keys,
         &mut work,
         &mut out,
     );
-    flush(&out, used);
 }

@@ -1,14 +1,14 @@
--- `desk::run` meets its contract. The measure is the number of turns left. Assumes nothing.
+-- `desk::serve` meets its contract. The measure is the number of turns left. Assumes nothing.
 use borrow.Author.Needs.{needs}
 use native.Mathlib.Omega.{arith}
-use Rattle.desk.proofs.run.Statement.{statement}
-use Rattle.desk.proofs.run.Tie as tie
+use Rattle.desk.proofs.serve.Statement.{statement}
+use Rattle.desk.proofs.serve.Tie as tie
 
 abbrev Inv-loop : tie.InvT-loop
-Inv-loop input₀ script₀ tokens₀ nodes₀ keys₀ work₀ out₀ line₀ turns₀ input script tokens nodes keys work out line turns = Unit {0}
+Inv-loop script₀ tokens₀ nodes₀ keys₀ work₀ out₀ input₀ line₀ turns₀ script tokens nodes keys work out input line turns = Unit {0}
 
 abbrev μ-loop : tie.MeasureT-loop
-μ-loop input₀ script₀ tokens₀ nodes₀ keys₀ work₀ out₀ line₀ turns₀ input script tokens nodes keys work out line turns = turns
+μ-loop script₀ tokens₀ nodes₀ keys₀ work₀ out₀ input₀ line₀ turns₀ script tokens nodes keys work out input line turns = turns
 
 loop-holds : tie.Need-loop-holds Inv-loop μ-loop
 loop-holds c = search needs
@@ -43,8 +43,8 @@ flush-requires-2 c κs = search needs
 returns-2 : tie.Need-returns-2 Inv-loop μ-loop
 returns-2 c = search needs
 
-pub run-spec : {M : Type 1} → statement M
-run-spec =
+pub serve-spec : {M : Type 1} → statement M
+serve-spec =
     tie.close
     (tie.spec
     Inv-loop
