@@ -2,3 +2,4 @@
 pub mod Stepping
 pub mod Runs
 pub mod Read
+pub mod ReadTheorems

@@ -1,0 +1,4 @@
+-- Laws that the functions' proofs cite.
+pub mod NarrowLaws
+pub mod DeskLaws
+pub mod ReceiveLaws

@@ -1,0 +1,54 @@
+-- `desk::answer` meets its contract. A refused line or a script that was read, by what the line means (DeskLaws). Assumes nothing.
+use Rattle.desk.proofs.DeskLaws.{refused-text, read-text, read-sized, text-added}
+use Rattle.hex_line.specs.FeedingLaws.{script-fits}
+use denote.Ref.{now}
+use native.Mathlib.Omega.{arith}
+use mathlib.Core.Path.{_∙_}
+use borrow.Author.Needs.{needs}
+use Rattle.desk.proofs.answer.Statement.{statement}
+use Rattle.desk.proofs.answer.Tie as tie
+
+end-requires : tie.Need-end-requires
+end-requires c κs = search needs
+
+enum-known-meaning : tie.Need-enum-known-meaning
+enum-known-meaning c = search needs
+
+refused-requires : tie.Need-refused-requires
+refused-requires c κs = search needs
+
+lay-out-requires : tie.Need-lay-out-requires
+lay-out-requires c κs = search needs
+
+enum-known-meaning-2 : tie.Need-enum-known-meaning-2
+enum-known-meaning-2 c = search needs
+
+read-front-requires : tie.Need-read-front-requires
+read-front-requires c κs = omega (arith, script-fits (c .before .before .before .before .before .before .before .before .before .args .line) _ _ (c .before .before .before .before .before .before .before .before .end .ensures) (c .before .before .before .before .before .before .meaning2 .given .1))
+
+answered-requires : tie.Need-answered-requires
+answered-requires c κs = search needs
+
+lay-out-requires-2 : tie.Need-lay-out-requires-2
+lay-out-requires-2 c κs = search needs
+
+returns : tie.Need-returns
+returns c = (c .lay-out .ensures .0, text-added _ _ (now (c .before .before .before .before .before .before .before .before .before .args .out)) (c .before .before .before .before .before .before .before .before .before .args .used) _ _ (refused-text (c .before .before .before .before .before .before .before .before .before .args .line) (now (c .before .before .before .before .before .before .before .before .before .args .script)) _ _ _ (c .before .before .before .before .before .before .before .before .end .ensures) (c .before .before .before .before .before .before .meaning .given .1) (c .before .before .before .refused .ensures)) (c .lay-out .ensures .1))
+
+returns-2 : tie.Need-returns-2
+returns-2 c = (c .lay-out2 .ensures .0, text-added _ _ (now (c .before .before .before .before .before .before .before .before .before .before .before .before .before .before .before .args .out)) (c .before .before .before .before .before .before .before .before .before .before .before .before .before .before .before .args .used) _ _ (read-text (c .before .before .before .before .before .before .before .before .before .before .before .before .before .before .before .args .line) (now (c .before .before .before .before .before .before .before .before .before .before .before .before .before .before .before .args .script)) _ _ (c .before .before .before .before .before .read-front .last .1 .1 .1 .0) (c .before .before .before .before .before .read-front .last .1 .1 .1 .1 .0) (c .before .before .before .before .before .read-front .last .1 .1 .1 .1 .1 .0) (c .before .before .before .before .before .read-front .last .1 .1 .1 .1 .1 .1 .0) (c .before .before .before .before .before .read-front .result) (c .before .before .before .before .before .before .before .before .before .before .before .before .before .before .end .ensures) (c .before .before .before .before .before .before .before .before .before .before .before .before .meaning2 .given .1) (read-sized _ _ (now (c .before .before .before .before .before .before .before .before .before .before .before .before .before .before .before .args .tokens)) (now (c .before .before .before .before .before .before .before .before .before .before .before .before .before .before .before .args .nodes)) (now (c .before .before .before .before .before .before .before .before .before .before .before .before .before .before .before .args .keys)) (now (c .before .before .before .before .before .before .before .before .before .before .before .before .before .before .before .args .work)) (search needs) (search needs) (search needs) (search needs) (c .before .before .before .before .before .read-front .ensures)) (search needs) (search needs) (c .before .before .before .answered .ensures)) (c .lay-out2 .ensures .1))
+
+pub answer-spec : {M : Type 1} → statement M
+answer-spec =
+    tie.close
+    (tie.spec
+    end-requires
+    enum-known-meaning
+    refused-requires
+    lay-out-requires
+    enum-known-meaning-2
+    read-front-requires
+    answered-requires
+    lay-out-requires-2
+    returns
+    returns-2)

@@ -1,0 +1,19 @@
+-- `desk::write_front` meets its contract. A front of the output. Assumes nothing.
+use lib.Seq.{length-take-le}
+use denote.Ref.{now}
+use mathlib.Core.Path.{sym}
+use borrow.Author.Needs.{needs}
+use Rattle.desk.proofs.write_front.Statement.{statement}
+use Rattle.desk.proofs.write_front.Tie as tie
+
+slice-aggregate-write-all : tie.Need-slice-aggregate-write-all
+slice-aggregate-write-all c = sym (length-take-le (c .before .before .args .used) (now (c .before .before .args .out)) (c .before .before .pre))
+
+write-all-requires : tie.Need-write-all-requires
+write-all-requires c κs = search needs
+
+returns : tie.Need-returns
+returns c = search needs
+
+pub write-front-spec : {M : Type 1} → statement M
+write-front-spec = tie.close (tie.spec slice-aggregate-write-all write-all-requires returns)

@@ -1,0 +1,4 @@
+-- Laws that the functions' proofs cite.
+pub mod DigitLaws
+pub mod FeedLaws
+pub mod FeedLineLaws

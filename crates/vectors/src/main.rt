@@ -1,0 +1,4 @@
+// The desk on a stored list: the vectors of docs/VECTORS.md (crates/vectors/cases).
+fn main() {
+    desk::run();
+}
