@@ -2,7 +2,7 @@
 // and with each table one entry too small, odd cells included, and junk in all of them before. For each run it writes: the
 // script kind and the script; number, reason, place, tokens, steps, nodes and keys; then, each on a line of its own and
 // whole, cell by cell in hexadecimal, the token table (t), the node table (n), the key table (k) and the work table (w).
-// The stored output was not taken from this program: a reading of document 01 in another language, made apart from the
+// The stored output was not taken from this program: a reading of document 01 in Python, which shares no text with the
 // definitions and the code, wrote it, and found the least room of each table with which a script's answer stays the same.
 ghost use Prim.Native.Nat.{_+_, _*_, _≤_};
 ghost use lib.ListN.{length};
