@@ -4,12 +4,20 @@ type rules follow decode.rs and correctness.rs, so its agreement with the crate'
 
     second_reader.py < lines > listings
 
-It is plain and slow on purpose. The stored lists' expected listings are made with it (tests/lists), and those are held against
-the crate's own text by tests/against-oracle, in everything but places, which the crate doesn't have.
+It is plain and slow on purpose. The stored lists' expected listings are made with it (tests/lists.py), and those are held against
+the crate's own text by tests/against_oracle.py, in everything but places, which the crate doesn't have. tests/reader_cases.py has it
+read with other tables than the program's, and shows those whole.
 """
+import collections
 import sys
 
-TOKENS, NODES, KEYS, WORK, SCRIPT = 1040, 512, 128, 1024, 520
+# how many tokens, nodes, keys and work entries the lent tables hold
+Room = collections.namedtuple("Room", "tokens nodes keys work")
+# what an answer says, and what the token, node and key tables then hold at their front
+Outcome = collections.namedtuple("Outcome", "number reason place steps tokens nodes keys count")
+
+# the program's tables, the longest script of its lines, and the longest that the reader takes
+PROGRAM, LINE, LIMIT = Room(1040, 512, 128, 1024), 520, 10000
 
 # Token's order in lex.rs: a code is the place in this list, from 1
 TOKEN = ["", "BoolAnd", "BoolOr", "Add", "Equal", "NumEqual", "CheckSig", "CheckSigAdd", "CheckMultiSig", "CheckSequenceVerify",
@@ -33,7 +41,7 @@ class No(Exception):
 
 
 # Bytes to tokens: (name, number, place), or a refusal.
-def lex(script):
+def lex(script, room):
     out, at = [], 0
     while at < len(script):
         b, here, last = script[at], at, out[-1][0] if out else ""
@@ -78,7 +86,7 @@ def lex(script):
                 new = [(OPCODE[b], 0, here)]
             else:
                 raise No(6, here)
-        if len(out) + len(new) > TOKENS:
+        if len(out) + len(new) > room:
             raise No(8, here)
         out += new
     return out
@@ -185,8 +193,8 @@ HASHES = {"Hash20": ("Ripemd160", "Hash160"), "Bytes32": ("Sha256", "Hash256")}
 
 
 class Reader:
-    def __init__(self, kind, script, tokens):
-        self.kind, self.script, self.tokens, self.left = kind, script, tokens, len(tokens)
+    def __init__(self, kind, script, tokens, room):
+        self.kind, self.script, self.tokens, self.left, self.room = kind, script, tokens, len(tokens), room
         self.work, self.nodes, self.keys, self.steps = [], [], [], 0
 
     # the place of the last token taken, 0 if none
@@ -215,7 +223,7 @@ class Reader:
         return self.left > 0 and self.tokens[self.left - 1][0] not in ("If", "NotIf", "Else", "ToAltStack", "Swap")
 
     def push(self, *entries):
-        if len(self.work) + len(entries) > WORK:
+        if len(self.work) + len(entries) > self.room.work:
             self.no(17)
         self.work += entries
 
@@ -229,7 +237,7 @@ class Reader:
         return types, at
 
     def node(self, kind, type_, size=1, number=0, count=0, place=0):
-        if len(self.nodes) >= NODES:
+        if len(self.nodes) >= self.room.nodes:
             self.no(15)
         self.nodes.append((KIND[kind], number, count, place, size) + type_)
 
@@ -255,7 +263,7 @@ class Reader:
     def multi(self, kind, k, n_most, keys):
         if not 1 <= k <= len(keys) <= n_most:
             self.no(13)
-        if len(self.keys) + len(keys) > KEYS:
+        if len(self.keys) + len(keys) > self.room.keys:
             self.no(16)
         self.leaf(kind, number=k, count=len(keys), place=len(self.keys))
         self.keys += reversed(keys)
@@ -405,35 +413,44 @@ class Reader:
             raise No(19)
 
 
-def header(number, reason=0, place=0, tokens=0, steps=0, nodes=0, keys=0):
-    return "%02x %02x %08x %08x %08x %08x %08x\n" % (number, reason, place, tokens, steps, nodes, keys)
+def refused(no, count=0, steps=0):
+    return Outcome(no.number, no.reason, no.place, steps, [], [], [], count)
 
 
-def read(kind, script):
+# The reader: the answer, and what stands at the front of the tables, nothing after a refusal.
+def read(kind, script, room):
+    if kind > 1:
+        return refused(No(20))
+    if len(script) > LIMIT:
+        return refused(No(1))
     try:
-        tokens = lex(script)
+        tokens = lex(script, room.tokens)
     except No as no:
-        return header(no.number, 0, no.place)
-    reader = Reader(kind, script, tokens)
+        return refused(no)
+    reader = Reader(kind, script, tokens, room)
     try:
         reader.run()
     except No as no:
-        return header(no.number, no.reason, no.place, len(tokens), reader.steps)
-    out = header(0, 0, 0, len(tokens), reader.steps, len(reader.nodes), len(reader.keys))
-    for n in reader.nodes:
-        out += "%02x %08x %08x %08x %08x %x%x%x%x\n" % n
-    return out + "".join("%08x\n" % k for k in reader.keys)
+        return refused(no, len(tokens), reader.steps)
+    return Outcome(0, 0, 0, reader.steps, tokens, reader.nodes, reader.keys, len(tokens))
+
+
+def header(o):
+    return "%02x %02x %08x %08x %08x %08x %08x\n" % (o.number, o.reason, o.place, o.count, o.steps, len(o.nodes), len(o.keys))
+
+
+def listing(o):
+    nodes = "".join("%02x %08x %08x %08x %08x %x%x%x%x\n" % n for n in o.nodes)
+    return header(o) + nodes + "".join("%08x\n" % k for k in o.keys)
 
 
 def answer(line):
     if not line or len(line) % 2 or any(c not in b"0123456789abcdefABCDEF" for c in line):
-        return header(23)
+        return header(refused(No(23)))
     data = bytes.fromhex(line.decode())
-    if data[0] > 1:
-        return header(20)
-    if len(data) > 1 + SCRIPT:
-        return header(1)
-    return read(data[0], data[1:])
+    if data[0] <= 1 and len(data) > 1 + LINE:
+        return header(refused(No(1)))
+    return listing(read(data[0], data[1:], PROGRAM))
 
 
 def main():

@@ -5,7 +5,7 @@ use mathlib.Core.List.{List, [], _∷_, _++_, map, reverseAux}
 use Prim.Native.Nat.{ℕ, zero, suc, _+_, _-_, _*_, _/_, _≤_, _<_}
 use native.Mathlib.Omega.{arith}
 use lib.Dec.{eqb, leb}
-use lib.ListN.{length, getD, take, drop, length-take, length-append, length-map, length-replicate}
+use lib.ListN.{length, getD, take, drop, length-take, length-append, length-map, length-replicate, List·getD-eq-default}
 use borrow.Author.Tests.{le-leb, lt-leb, leb-true}
 use Rattle.tables.specs.Choose.{pick}
 use Rattle.tables.specs.Tables.{zeros, flat}
@@ -29,12 +29,12 @@ use Rattle.row.proofs.StartLaws.{all-left, place-cell}
 use Rattle.node_store.specs.Stored.{nodesIn, keysIn}
 use Rattle.perform.specs.View.{roomOf, Behind}
 use Rattle.decode.specs.declared.Answer.{Answer}
-use Rattle.decode.specs.declared.Ran.{Ran}
-use Rattle.decode.specs.Runs.{Refuses, Ends, Runs}
+use Rattle.run.specs.declared.Ran.{Ran}
+use Rattle.run.specs.Runs.{Refuses, Ends, Runs}
 use Rattle.decode.specs.Read as read
 use Rattle.decode.specs.Read.{lengthsOf, outcomeAt, refusedAnswer, placeIn}
-use Rattle.decode.proofs.RunLaws.{back}
-use Rattle.decode.proofs.EndLaws.{all-zeros, behind-tail}
+use Rattle.run.proofs.RunLaws.{back}
+use Rattle.run.proofs.EndLaws.{all-zeros, behind-tail}
 
 -- Wiping
 
@@ -47,6 +47,9 @@ pub wiped : (t front : List ℕ) (n : ℕ) → n ≤ length t → Behind t n →
 wiped t front n h b e =
     let l : length (take n t) ≡ n = simp length-take (omega arith) in
     ap (λ (f : List ℕ). f ++ drop n t) (e ∙ ap zeros l) ∙ wiped-front t n h b
+
+pub all-behind : (t : List ℕ) → (length t ≤ length t) × Behind t (length t)
+all-behind t = (omega arith, (λ i h. List·getD-eq-default t 0 h))
 
 pub zeros-are-behind : (t : List ℕ) (n : ℕ) → t ≡ zeros (length t) → Behind t n
 zeros-are-behind t n e i b = ap (λ (l : List ℕ). getD l i 0) e ∙ zeros-cell (length t) i

@@ -1,5 +1,3 @@
--- The decoder over lent tables, and the reader.
-pub mod Stepping
-pub mod Runs
+-- The reader over lent tables.
 pub mod Read
 pub mod ReadTheorems

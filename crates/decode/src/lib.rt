@@ -1,139 +1,17 @@
-// decode.rs's loop over lent tables, and the reader that intake calls. One step takes one entry off the work list: its row
-// is read (crate `rows`), the node that it asks for is judged (crate `judge`), and only then anything is written (crate
-// `perform`).
+// The reader that intake calls: a script lexed, decoded (crate `run`), and the tables left as document 01 has them.
 ghost use mathlib.Core.Path.{_≡_};
-ghost use mathlib.Core.List.{[], reverseAux};
 ghost use Prim.Native.Nat.{_*_, _/_, _≤_};
 ghost use lib.ListN.{length};
 ghost use Rattle.tables.specs.Tables.{zeros};
 ghost use Rattle.lex.specs.declared.Answer.the-variants as lexing;
 ghost use Rattle.lex.specs.Script.{lexOf, Lexes};
-ghost use Rattle.standard.specs.Machine.{decode};
 ghost use Rattle.standard.specs.Outcome.{lexed, outcomeOf};
-ghost use Rattle.row.specs.Tokens.{InTable, lexemesLeft};
-ghost use Rattle.perform.specs.View.{roomOf, Behind, Steps};
-ghost use Rattle.decode.specs.Stepping.{Stepping};
-ghost use Rattle.decode.specs.Runs.{closesWith, Runs};
+ghost use Rattle.perform.specs.View.{Behind};
 ghost use Rattle.decode.specs.Read.{answerOf, lengthsOf, outcomeAt, refusedAnswer, placeIn};
-use perform::State;
-use perform::Step;
-use row::NonTerm;
-
-// How a run ended: 0 or the refusal with how many tokens stand before the one that it is about; the steps; and how many
-// nodes and keys the tables hold.
-pub struct Ran {
-    pub number: u32,
-    pub reason: u32,
-    pub left: usize,
-    pub steps: usize,
-    pub nodes: usize,
-    pub keys: usize,
-}
-
-// One entry taken off the work list.
-fn step(
-    segwit: bool,
-    script: &[u8],
-    tokens: &[u32],
-    nodes: &mut [u32],
-    keys: &mut [u32],
-    work: &mut [u64],
-    s: State,
-) -> Step
-    requires { ⌜ Stepping segwit (now script) (now tokens) (now nodes) (now keys) (now work) s ⌝ }
-    ensures { λ r. ⌜ Steps segwit (now (script .entry)) (now (tokens .entry)) (now (nodes .entry)) (now (keys .entry)) (now (work .entry)) (now (nodes .exit)) (now (keys .exit)) (now (work .exit)) s r ⌝ }
-{
-    let w = s.work;
-    let left = s.left;
-    let entry = work_list::take(work, w);
-    let found = rows::row_of(segwit, script, tokens, left, entry);
-    let row = found.row;
-    let after = State {
-        left: found.left,
-        work: w - 1,
-        nodes: s.nodes,
-        keys: s.keys,
-    };
-    perform::perform(tokens, nodes, keys, work, after, row)
-}
-
-// A run's end.
-fn ended(number: u32, reason: u32, left: usize, steps: usize, nodes: usize, keys: usize) -> Ran
-    ensures { λ r. ⌜ r ≡ record { number = number; reason = reason; left = left; steps = steps; nodes = nodes; keys = keys } ⌝ }
-{
-    Ran {
-        number,
-        reason,
-        left,
-        steps,
-        nodes,
-        keys,
-    }
-}
-
-// The work list is empty: 18 if tokens are left over, 19 if the tree's base is not B.
-fn close(nodes: &[u32], s: State, steps: usize) -> Ran
-    requires { ⌜ (1 ≤ s .nodes) × (9 * s .nodes ≤ length (now nodes)) ⌝ }
-    ensures { λ r. ⌜ r ≡ closesWith (now (nodes .entry)) s steps ⌝ }
-{
-    let left = s.left;
-    let m = s.nodes;
-    let keys = s.keys;
-    if 0 < left {
-        return ended(18, 0, left - 1, steps, m, keys);
-    }
-    if nodes[9 * (m - 1) + 5] != 1 {
-        return ended(19, 0, 0, steps, m, keys);
-    }
-    ended(0, 0, 0, steps, m, keys)
-}
-
-// The rows, from the whole token list on. The node table and the key table are clear.
-fn run(
-    segwit: bool,
-    script: &[u8],
-    tokens: &[u32],
-    count: usize,
-    nodes: &mut [u32],
-    keys: &mut [u32],
-    work: &mut [u64],
-) -> Ran
-    requires { ⌜ InTable (now tokens) count ⌝ }
-    requires { ⌜ (count ≤ 33554432) × (Behind (now nodes) 0) × (Behind (now keys) 0) ⌝ }
-    ensures { λ r. ⌜ Runs segwit (decode segwit (roomOf (now (nodes .entry)) (now (keys .entry)) (now (work .entry))) (reverseAux (lexemesLeft (now (script .entry)) (now (tokens .entry)) count) [])) (now (nodes .exit)) (now (keys .exit)) r ⌝ }
-{
-    if work.len() < 2 {
-        return ended(17, 0, count, 0, 0, 0);
-    }
-    work_list::enter2(work, 0, NonTerm::MaybeAndV, NonTerm::Expression);
-    let mut s = State {
-        left: count,
-        work: 2,
-        nodes: 0,
-        keys: 0,
-    };
-    let mut steps: usize = 0;
-    while 0 < s.work {
-        let got = step(segwit, script, tokens, nodes, keys, work, s);
-        steps += 1;
-        match got {
-            Step::Goes(next) => {
-                s = next;
-            }
-            Step::Stops {
-                number,
-                reason,
-                left,
-            } => {
-                return ended(number, reason, left, steps, s.nodes, s.keys);
-            }
-        }
-    }
-    close(nodes, s, steps)
-}
 
 // What the reader answers: document 01's number and reason, 0 where it accepts; the place; and how many tokens, steps,
 // nodes and keys there are.
+#[repr(C)]
 pub struct Answer {
     pub number: u32,
     pub reason: u32,
@@ -172,13 +50,7 @@ fn place_of(tokens: &[u32], count: usize, number: u32, left: usize) -> usize
     if count <= left {
         return 0;
     }
-    long(tokens[3 * left + 2])
-}
-
-fn long(x: u32) -> usize
-    ensures { λ r. ⌜ r ≡ x ⌝ }
-{
-    x as usize
+    tables::long(tokens[3 * left + 2])
 }
 
 // Clears the front of a table that is clear behind it.
@@ -197,6 +69,14 @@ fn wipe_nodes(nodes: &mut [u32], m: usize)
     wipe(nodes, 9 * m);
 }
 
+// Clears the front of a work table that is clear behind it.
+fn wipe_work(work: &mut [u64], n: usize)
+    requires { ⌜ (n ≤ length (now work)) × Behind (now work) n ⌝ }
+    ensures { λ _. ⌜ now (work .exit) ≡ zeros (length (now (work .entry))) ⌝ }
+{
+    tables::clear_work(&mut work[..n]);
+}
+
 // The tokens of a script that lexes, decoded. The node table and the key table are clear.
 fn decoded(
     segwit: bool,
@@ -211,8 +91,10 @@ fn decoded(
     requires { ⌜ (now nodes ≡ zeros (length (now nodes))) × (now keys ≡ zeros (length (now keys))) ⌝ }
     ensures { λ r. ⌜ outcomeAt r (now (tokens .exit)) (now (nodes .exit)) (now (keys .exit)) (now (work .exit)) ≡ lexed segwit (lengthsOf (now (tokens .entry)) (now (nodes .entry)) (now (keys .entry)) (now (work .entry))) (now (script .entry)) (lexOf (length (now (tokens .entry)) / 3) (now (script .entry))) ⌝ }
 {
-    let ran = run(segwit, script, tokens, count, nodes, keys, work);
-    tables::clear_work(work);
+    let ran = run::run(segwit, script, tokens, count, nodes, keys, work);
+    // Neither the run nor who lent the table leaves zeros anywhere, so all of it is cleared.
+    let entries = work.len();
+    wipe_work(work, entries);
     if ran.number == 0 {
         return Answer {
             number: 0,

@@ -1,4 +1,3 @@
 -- Laws that the functions' proofs cite.
-pub mod NarrowLaws
-pub mod DeskLaws
-pub mod ReceiveLaws
+pub mod SendingLaws
+pub mod ServingLaws

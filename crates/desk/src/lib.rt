@@ -1,7 +1,16 @@
-// The desk's working loop: lines of hexadecimal from standard input, listings to standard output (document 01, section "Program").
+// The system calls of the desk: standard input is read part by part, and what the clerk lays out is written to standard output (document 01,
+// section "Program"). In a library, so that a program of the repository is one call of `run` over a list of its own.
 //
-// What a line means is proved in `hex_line`, what a script is read to in `decode`, the bytes of a listing in `listing`. This crate adds
-// the system calls and the tables, in a library, so that a program of the repository is one call of `run` over a list of its own.
+// Outside the proof, since no contract can say which bytes a system call read or wrote:
+//   that `next` leaves the next n bytes of standard input at the front of the lent input, and answers 0 only at its end;
+//   that `write_front` writes the first `used` bytes of the output, all of them and in order;
+//   that `write_out` calls `write_front` once after each turn of the clerk that lays something out.
+// All else is proved, in `clerk` and below: what a turn lays out, from the bytes that lie in the input; and here, that the line which a part
+// of the input leaves open is the one that the next part goes on with, that the turns for a part end, and that they end with nothing owed.
+//
+// A read or a write that a signal interrupts is tried again. One that fails is told on standard error with the system's reason: after a read
+// the input ends there, so that what came before is answered; after a write nothing more is written, so that no listing is missing between
+// others. A program has no exit status of its own, so it is 0 then too.
 //
 // The bytes that the desk holds, all on the stack:
 //   tokens  1,040 of 3 numbers of 4 bytes   12,480
@@ -11,197 +20,84 @@
 //   script                                     520
 //   input                                    4,096
 //   output                                   8,192
-//   io::write_all, while a write is cut short 4,096
-//   in all                                  56,520, under 64 KiB (65,536)
+//   os::fail, while a failure is told        4,160
+//   in all                                  56,584, under 64 KiB (65,536)
 ghost use mathlib.Core.Path.{_≡_};
-ghost use Prim.Native.Nat.{_%_, _≤_};
-ghost use mathlib.Core.List.{[]};
+ghost use Prim.Native.Nat.{_+_, _≤_, _<_};
 ghost use lib.ListN.{length, take};
-ghost use Rattle.listing.specs.Listing.{listing, lineAt};
-ghost use Rattle.standard.specs.Outcome.{outcomeOf};
-ghost use Rattle.decode.specs.Read.{lengthsOf, outcomeAt};
-ghost use Rattle.hex_line.specs.Feeding.{fed, toldOf, toldAll, toldIn, leftBy};
-ghost use Rattle.desk.specs.Program.{refusalOf, textOf, textsOf};
-ghost use Rattle.desk.specs.Narrow.{narrowed};
-ghost use Rattle.desk.specs.Waiting.{Adds};
-use decode::Answer;
+ghost use Rattle.hex_line.specs.Feeding.{fed, leftBy};
+ghost use Rattle.clerk.specs.Owed.{leaves};
+use clerk::Hand;
 use hex_line::Line;
-use hex_line::Meaning;
-use libc::STDERR_FILENO;
+use libc::EINTR;
 use libc::STDIN_FILENO;
 use libc::STDOUT_FILENO;
-use listing::Header;
 
-// How much waits in an output whose last write failed: nothing more is written then, so that no listing is missing between others.
-const CLOSED: usize = 8193;
-
-// How far the last line has been read, and how much waits in the output.
-struct Taken {
+// How far the line at the end of a part of the input has been read, and how many bytes the part has: 0 if nothing more is to be read, since
+// the input has ended or a write failed.
+struct Sent {
     line: Line,
-    used: usize,
+    n: usize,
 }
 
-// Writes what waits in the output, and answers whether it is still open. A write that is cut short goes on; one that fails is told on
-// standard error.
-fn flush(out: &[u8; 8192], used: usize) -> bool
-    requires { ⌜ used ≤ 8193 ⌝ }
+// The next bytes of standard input, as many as one read gives; 0 at its end.
+fn next(input: &mut [u8; 4096]) -> usize
+    ensures { λ r. ⌜ (r ≤ 4096) × (r ≤ length (now (input .exit))) ⌝ }
 {
-    if used == CLOSED {
-        return false;
+    let mut tries = u64::MAX;
+    while tries > 0 {
+        let got = libc::read(STDIN_FILENO, input);
+        if got >= 0 {
+            return io::count(got, input);
+        }
+        if os::errno() != EINTR {
+            os::fail(b"a read failed, and the input ends here");
+            return 0;
+        }
+        tries -= 1;
     }
-    if write_front(out, used) {
-        return true;
-    }
-    io::write_all(STDERR_FILENO, b"a write failed: the listings end here\n");
-    false
+    0
 }
 
-// The first `used` bytes of the output, written.
+// One write of the output from a byte up to another. Answers how many bytes it took; 0 if it failed.
+fn write_some(out: &[u8], from: usize, to: usize) -> usize
+    requires { ⌜ (from ≤ to) × (to ≤ length (now out)) ⌝ }
+    ensures { λ r. ⌜ from + r ≤ to ⌝ }
+{
+    let mut tries = u64::MAX;
+    while tries > 0 {
+        let rest = &out[from..to];
+        let got = libc::write(STDOUT_FILENO, rest);
+        if got >= 0 {
+            return io::count(got, rest);
+        }
+        if os::errno() != EINTR {
+            return 0;
+        }
+        tries -= 1;
+    }
+    0
+}
+
+// The first `used` bytes of the output, written. Answers whether all of them were: a write that is cut short goes on.
 fn write_front(out: &[u8], used: usize) -> bool
     requires { ⌜ used ≤ length (now out) ⌝ }
 {
-    io::write_all(STDOUT_FILENO, &out[..used])
-}
-
-// Line k of a listing, behind what waits in the output; if it doesn't fit there, what waits is written first.
-fn put(
-    out: &mut [u8; 8192],
-    used: usize,
-    h: Header,
-    nodes: &[u32; 4608],
-    keys: &[u32; 128],
-    k: usize,
-) -> usize
-    requires { ⌜ used ≤ 8193 ⌝ }
-    ensures { λ r. ⌜ (r ≤ 8193) × Adds (lineAt h (now (nodes .entry)) (now (keys .entry)) k) (now (out .entry)) used (now (out .exit)) r ⌝ }
-{
-    if used == CLOSED {
-        return CLOSED;
-    }
-    let next = listing::put_line(out, used, h, nodes, keys, k);
-    if next != used {
-        return next;
-    }
-    if !flush(out, used) {
-        return CLOSED;
-    }
-    listing::put_line(out, 0, h, nodes, keys, k)
-}
-
-fn long(x: u32) -> usize
-    ensures { λ r. ⌜ r ≡ x ⌝ }
-{
-    x as usize
-}
-
-// All lines of a listing, behind what waits in the output.
-fn lay_out(
-    out: &mut [u8; 8192],
-    used: usize,
-    h: Header,
-    nodes: &[u32; 4608],
-    keys: &[u32; 128],
-) -> usize
-    requires { ⌜ used ≤ 8193 ⌝ }
-    ensures { λ r. ⌜ (r ≤ 8193) × Adds (listing h (now (nodes .entry)) (now (keys .entry))) (now (out .entry)) used (now (out .exit)) r ⌝ }
-{
-    let lines = 1 + long(h.nodes) + long(h.keys);
-    let mut at = used;
-    let mut k = 0;
-    while k < lines {
-        at = put(out, at, h, nodes, keys, k);
-        k += 1;
-    }
-    at
-}
-
-// The header of a line that is refused before it is read.
-fn refused(number: u32) -> Header
-    ensures { λ r. ⌜ r ≡ refusalOf number ⌝ }
-{
-    Header {
-        number,
-        reason: 0,
-        place: 0,
-        tokens: 0,
-        steps: 0,
-        nodes: 0,
-        keys: 0,
-    }
-}
-
-fn narrow(x: usize) -> u32
-    ensures { λ r. ⌜ r ≡ x % 4294967296 ⌝ }
-{
-    (x % 4294967296) as u32
-}
-
-// The header of what the reader answers. A listing has eight digits for a number, so nothing is lost here.
-fn answered(a: Answer) -> Header
-    ensures { λ r. ⌜ r ≡ narrowed a ⌝ }
-{
-    Header {
-        number: a.number,
-        reason: a.reason,
-        place: narrow(a.place),
-        tokens: narrow(a.tokens),
-        steps: narrow(a.steps),
-        nodes: narrow(a.nodes),
-        keys: narrow(a.keys),
-    }
-}
-
-// The first `size` bytes of the script buffer, read.
-fn read_front(
-    kind: u32,
-    script: &[u8],
-    size: usize,
-    tokens: &mut [u32],
-    nodes: &mut [u32],
-    keys: &mut [u32],
-    work: &mut [u64],
-) -> Answer
-    requires { ⌜ size ≤ length (now script) ⌝ }
-    ensures { λ r. ⌜ outcomeAt r (now (tokens .exit)) (now (nodes .exit)) (now (keys .exit)) (now (work .exit)) ≡ outcomeOf kind (take size (now (script .entry))) (lengthsOf (now (tokens .entry)) (now (nodes .entry)) (now (keys .entry)) (now (work .entry))) ⌝ }
-{
-    decode::read(kind, &script[..size], tokens, nodes, keys, work)
-}
-
-// A line has ended: it is refused, or its script is read; its listing goes behind what waits in the output.
-fn answer(
-    line: Line,
-    script: &[u8; 520],
-    tokens: &mut [u32; 3120],
-    nodes: &mut [u32; 4608],
-    keys: &mut [u32; 128],
-    work: &mut [u64; 1024],
-    out: &mut [u8; 8192],
-    used: usize,
-) -> usize
-    requires { ⌜ used ≤ 8193 ⌝ }
-    ensures { λ r. ⌜ (r ≤ 8193) × Adds (textOf (toldOf (fed line (now (script .entry))))) (now (out .entry)) used (now (out .exit)) r ⌝ }
-{
-    let meaning = hex_line::end(line);
-    match meaning {
-        Meaning::Refused(number) => lay_out(out, used, refused(number), nodes, keys),
-        Meaning::Script { kind, size } => {
-            let a = read_front(kind, script, size, tokens, nodes, keys, work);
-            lay_out(out, used, answered(a), nodes, keys)
+    let mut done = 0;
+    while done < used {
+        let took = write_some(out, done, used);
+        if took == 0 {
+            os::fail(b"a write failed, and the listings end here");
+            return false;
         }
+        done += took;
     }
+    true
 }
 
-// The next bytes of standard input, as many as one read gives; 0 at its end. A read that fails ends the input too.
-fn next(input: &mut [u8; 4096]) -> usize
-    ensures { λ r. ⌜ r ≤ 4096 ⌝ }
-{
-    let got = libc::read(STDIN_FILENO, input);
-    io::count(got, input)
-}
-
-// The first n bytes of the input, which may end anywhere in a line. What its lines are answered with goes into the output, in which nothing waits yet.
-fn receive(
-    line: Line,
+// Turn after turn of the clerk, each written, until nothing is owed for this part of the input.
+fn write_out(
+    hand: Hand,
     input: &[u8; 4096],
     n: usize,
     script: &mut [u8; 520],
@@ -210,43 +106,40 @@ fn receive(
     keys: &mut [u32; 128],
     work: &mut [u64; 1024],
     out: &mut [u8; 8192],
-) -> Taken
-    requires { ⌜ n ≤ 4096 ⌝ }
-    ensures { λ r. ⌜ (r .used ≤ 8193) × (fed (r .line) (now (script .exit)) ≡ leftBy (fed line (now (script .entry))) (take n (now (input .entry)))) × Adds (textsOf (toldIn (fed line (now (script .entry))) (take n (now (input .entry))))) (now (out .entry)) 0 (now (out .exit)) (r .used) ⌝ }
+) -> Sent
+    requires { ⌜ (n ≤ 4096) × (hand .at ≤ n) ⌝ }
+    ensures { λ r. ⌜ (0 < r .n → (r .n ≡ n) × (fed (r .line) (now (script .exit)) ≡ leaves hand (take n (now (input .entry))) (now (script .entry)))) ⌝ }
 {
-    let mut read = line;
-    let mut used = 0;
-    let mut i = 0;
-    while i < n {
-        let stop = hex_line::feed_line(read, input, i, n, script);
-        let at = stop.at;
-        let fed = stop.line;
-        if n <= at {
-            return Taken { line: fed, used };
+    let mut held = clerk::turn(hand, input, n, script, tokens, nodes, keys, work, out);
+    while held.used > 0 {
+        if !write_front(out, held.used) {
+            return Sent {
+                line: Line::Nothing,
+                n: 0,
+            };
         }
-        used = answer(fed, script, tokens, nodes, keys, work, out, used);
-        read = Line::Nothing;
-        i = at + 1;
+        held = clerk::turn(held, input, n, script, tokens, nodes, keys, work, out);
     }
-    Taken { line: read, used }
+    let line = held.line;
+    Sent { line, n }
 }
 
-// The end of the input: bytes after the last line feed are a line, nothing there is none. Answers how much waits in the output.
-fn last(
+// One part of standard input, which is in the input afterwards: read, answered and written.
+fn answer_part(
     line: Line,
-    script: &[u8; 520],
+    input: &mut [u8; 4096],
+    script: &mut [u8; 520],
     tokens: &mut [u32; 3120],
     nodes: &mut [u32; 4608],
     keys: &mut [u32; 128],
     work: &mut [u64; 1024],
     out: &mut [u8; 8192],
-) -> usize
-    ensures { λ r. ⌜ (r ≤ 8193) × Adds (textsOf (toldAll (fed line (now (script .entry))) [])) (now (out .entry)) 0 (now (out .exit)) r ⌝ }
+) -> Sent
+    ensures { λ r. ⌜ (r .n ≤ 4096) × (0 < r .n → fed (r .line) (now (script .exit)) ≡ leftBy (fed line (now (script .entry))) (take (r .n) (now (input .exit)))) ⌝ }
 {
-    if hex_line::is_nothing(line) {
-        return 0;
-    }
-    answer(line, script, tokens, nodes, keys, work, out, 0)
+    let n = next(input);
+    let hand = clerk::receive(line, n, script, tokens, nodes, keys, work);
+    write_out(hand, input, n, script, tokens, nodes, keys, work, out)
 }
 
 // Standard input, part by part to its end, with these tables.
@@ -264,19 +157,13 @@ fn serve(
     let mut line = Line::Nothing;
     let mut turns = u64::MAX;
     while turns > 0 {
-        let n = next(&mut input);
-        if n == 0 {
-            break;
-        }
-        let taken = receive(line, &input, n, script, tokens, nodes, keys, work, out);
-        line = taken.line;
-        if !flush(out, taken.used) {
+        let sent = answer_part(line, &mut input, script, tokens, nodes, keys, work, out);
+        if sent.n == 0 {
             return;
         }
+        line = sent.line;
         turns -= 1;
     }
-    let used = last(line, script, tokens, nodes, keys, work, out);
-    flush(out, used);
 }
 
 // Answers standard input line by line to its end.

@@ -16,10 +16,11 @@ use Rattle.standard.specs.Tree.{Leaf, Wrapper, Combination, Tree, Trees, leaf, 
 use Rattle.standard.specs.Allowed.{allowedLeaf, leafRefusal, threshAllowed}
 use Rattle.standard.specs.Types.{typedLeaf, typeOf, Judged, passes, fails, byRule, judge}
 use Rattle.standard.specs.Table.{Node, node, leafKind, wrapperKind, combinationKind, leafOffsets, keyTable, rootNode}
+use Rattle.standard.specs.TableLaws.{key-table-length}
 use Rattle.judge.specs.Nodes.{heldType, topNode, newLeaf, Making, makes, refuses, making, parent, reduceOne, reduceTwo, reduceThree, reduceMany}
 use Rattle.forest.specs.Forest.{children, preorders, leafNumber, leafCount, leafPlace, kindOf, numberOf, countOf, placeOf, ownKeys, HasType, AllHaveTypes, Forest, Agrees}
 use Rattle.forest.specs.PreorderLaws.{root-node, new-root, preorders-length, top-type}
-use Rattle.forest.specs.KeyLaws.{key-table-length, new-keys}
+use Rattle.forest.specs.KeyLaws.{new-keys}
 use Rattle.forest.specs.ReductionLaws.{leaf-kind, reduce-wrap, reduce-join, reduce-and-or, reduce-thresh}
 
 -- the first n trees of a stack, and the rest

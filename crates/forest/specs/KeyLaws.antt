@@ -1,47 +1,16 @@
--- The key table of the finished trees: how many keys it has, and that a new tree's own keys stand behind those of its children. Assumes nothing.
+-- The key table of the finished trees: a new tree's own keys stand behind those of its children. How many keys it has, TableLaws of `standard` says. Assumes nothing.
 use mathlib.Core.Path.{_≡_, refl, sym, ap, _∙_}
-use mathlib.Core.List.{List, [], _∷_, _++_, append-assoc, append-nil}
-use Prim.Native.Nat.{ℕ, suc, _+_}
-use native.Mathlib.Omega.{arith}
-use lib.ListN.{length, length-append}
-use Rattle.lex.specs.Token.{Data}
-use Rattle.standard.specs.Tree.{Key, key, Leaf, True, False, PkK, RawPkH, After, Older, HashLock, Multi, MultiA, Tree, Trees, leaf, wrap, join, andOr, thresh, nil, _⊳_, _⊕_, leafKeys, keyCount, keyCounts}
-use Rattle.standard.specs.Table.{keyPlaces, dataPlaces, leafOffsets, keysOf, keyTable}
+use mathlib.Core.List.{List, _++_, append-assoc, append-nil}
+use Prim.Native.Nat.{ℕ}
+use lib.ListN.{length}
+use Rattle.standard.specs.Tree.{Leaf, Tree, Trees, leaf, wrap, join, andOr, thresh, nil, _⊳_, _⊕_, leafKeys}
+use Rattle.standard.specs.Table.{leafOffsets, keysOf, keyTable}
+use Rattle.standard.specs.TableLaws.{keys-length}
 use Rattle.forest.specs.Forest.{children, ownKeys}
 
--- How many keys
-
-key-places-length : (ks : List Key) → length (keyPlaces ks) ≡ length ks
-key-places-length [] = refl
-key-places-length (k ∷ ks) = ap suc (key-places-length ks)
-
-data-places-length : (ds : List Data) → length (dataPlaces ds) ≡ length ds
-data-places-length [] = refl
-data-places-length (d ∷ ds) = ap suc (data-places-length ds)
-
+-- a leaf's keys, of the law for every tree
 pub leaf-keys-length : (l : Leaf) → length (leafOffsets l) ≡ leafKeys l
-leaf-keys-length True = refl
-leaf-keys-length False = refl
-leaf-keys-length (PkK k) = refl
-leaf-keys-length (RawPkH d) = refl
-leaf-keys-length (After n) = refl
-leaf-keys-length (Older n) = refl
-leaf-keys-length (HashLock h d) = refl
-leaf-keys-length (Multi k ks) = key-places-length ks
-leaf-keys-length (MultiA k d ds) = ap suc (data-places-length ds)
-
-mutual
-  pub keys-length : (t : Tree) → length (keysOf t) ≡ keyCount t
-  keys-length (leaf l) = leaf-keys-length l
-  keys-length (wrap w x) = keys-length x
-  keys-length (join c x y) = omega (arith, length-append (keysOf y) (keysOf x), keys-length x, keys-length y)
-  keys-length (andOr x y z) =
-      omega (arith, length-append (keysOf y) (keysOf z ++ keysOf x), length-append (keysOf z) (keysOf x), keys-length x, keys-length y, keys-length z)
-  keys-length (thresh k x xs) = omega (arith, length-append (keyTable xs) (keysOf x), keys-length x, key-table-length xs)
-
-  pub key-table-length : (ts : Trees) → length (keyTable ts) ≡ keyCounts ts
-  key-table-length nil = refl
-  key-table-length (t ⊳ ts) = omega (arith, length-append (keyTable ts) (keysOf t), keys-length t, key-table-length ts)
+leaf-keys-length l = keys-length (leaf l)
 
 -- A new tree's keys
 

@@ -5,11 +5,12 @@ use mathlib.Core.List.{List, [], _∷_, _++_, map, reverse, reverse-cons, revers
 use Prim.Native.Nat.{ℕ, zero, suc, _+_, _-_, _*_, _≤_, _<_}
 use native.Mathlib.Nat.{zero-add}
 use native.Mathlib.Omega.{arith}
-use lib.ListN.{length, getD, length-reverse}
+use lib.ListN.{length, getD}
 use Rattle.tables.specs.Tables.{flat, newest}
 use Rattle.tables.proofs.NewestLaws.{newest-length}
 use Rattle.standard.specs.Tree.{Tree, Trees, leaf, wrap, join, andOr, thresh, nil, _⊳_, _⊕_, many, size, sizes, keyCounts}
 use Rattle.standard.specs.Table.{Node, cells, rootNode, nodesFrom, nodeTable}
+use Rattle.standard.specs.TableLaws.{node-table-length}
 use Rattle.judge.specs.Nodes.{topNode, underTop}
 use Rattle.judge.specs.NodeTable.{nodeAt, sizeAt, Subtrees, Finished}
 use Rattle.judge.specs.NodeTableLaws.{top-read, under-read, table-read}
@@ -19,12 +20,9 @@ use Rattle.forest.specs.PreorderLaws.{new-root, preorders-length, preord
 -- The table of finished trees
 
 module _ (segwit : Bool) where
-  pub node-table-length : (done : Trees) → length (nodeTable segwit done) ≡ sizes done
-  node-table-length done = sym (length-reverse (nodeTable segwit done)) ∙ ap length (preorders-reversed segwit 0 done) ∙ preorders-length segwit 0 done
-
   pub table-nodes : (done : Trees) (rest : List ℕ) → newest (nodeAt (flat (map cells (nodeTable segwit done)) ++ rest)) (sizes done) ≡ preorders segwit 0 done
   table-nodes done rest =
-      ap (newest (nodeAt (flat (map cells (nodeTable segwit done)) ++ rest))) (sym (node-table-length done))
+      ap (newest (nodeAt (flat (map cells (nodeTable segwit done)) ++ rest))) (sym (node-table-length segwit done))
       ∙ table-read (nodeTable segwit done) rest
       ∙ preorders-reversed segwit 0 done
 

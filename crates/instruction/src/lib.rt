@@ -49,12 +49,6 @@ fn wide(x: u8) -> u32
     x as u32
 }
 
-fn long(x: u32) -> usize
-    ensures { λ r. ⌜ r ≡ x ⌝ }
-{
-    x as usize
-}
-
 // Each opcode byte is decided by one table of cases.
 fn opcode(b: u8) -> Op
     ensures { λ r. ⌜ r ≡ opOf b ⌝ }
@@ -254,7 +248,7 @@ fn sized(s: &[u8], at: usize, width: usize, least: usize) -> Lexed
     if s.len() - at < 1 + width {
         return Lexed::Refused(2);
     }
-    let n = long(value(s, at + 1, width));
+    let n = tables::long(value(s, at + 1, width));
     if n < least {
         return Lexed::Refused(3);
     }
@@ -296,7 +290,7 @@ pub fn instruction(s: &[u8], at: usize, last: u32) -> Lexed
     }
     let asked = opcode(s[at]);
     match asked {
-        Op::Push(n) => push(s, at, 1, long(n)),
+        Op::Push(n) => push(s, at, 1, tables::long(n)),
         Op::Sized(width, least) => sized(s, at, width, least),
         Op::Num(number) => Lexed::One {
             code: token::NUM,

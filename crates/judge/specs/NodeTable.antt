@@ -3,25 +3,11 @@ use Prim.Native.Nat.{ℕ, zero, suc, _+_, _*_, _-_, _≤_, _<_}
 use mathlib.Core.List.{List}
 use lib.ListN.{length, getD}
 use Rattle.standard.specs.Table.{Node}
+pub use Rattle.standard.specs.Table.{nodeAt}
 use Rattle.judge.specs.Nodes.{Making, makes, refuses}
 use Rattle.judge.specs.declared.Node as code
 use Rattle.judge.specs.declared.Made.{Made}
 use Rattle.judge.specs.declared.Made.the-variants.{Is, Not}
-
--- node number i of the table
-abbrev pub nodeAt : List ℕ → ℕ → Node
-nodeAt table i =
-    record {
-      kind = getD table (9 * i) 0;
-      number = getD table (9 * i + 1) 0;
-      count = getD table (9 * i + 2) 0;
-      place = getD table (9 * i + 3) 0;
-      size = getD table (9 * i + 4) 0;
-      base = getD table (9 * i + 5) 0;
-      input = getD table (9 * i + 6) 0;
-      d = getD table (9 * i + 7) 0;
-      u = getD table (9 * i + 8) 0;
-    }
 
 abbrev pub sizeAt : List ℕ → ℕ → ℕ
 sizeAt table i = nodeAt table i .size

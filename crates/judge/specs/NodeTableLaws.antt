@@ -1,6 +1,6 @@
 -- The flat node table, read by index: its newest node and what lies under that node's subtree; nodes written one after the other are read back; and a node more is put on the front of the list, or behind the nodes of the table. Assumes nothing.
 use mathlib.Core.Path.{_≡_, refl, sym, ap, _∙_}
-use mathlib.Core.List.{List, [], _∷_, _++_, map, map-append, reverse, reverse-cons}
+use mathlib.Core.List.{List, [], _∷_, _++_, map, map-append, reverse}
 use Prim.Native.Nat.{ℕ, zero, suc, _+_, _-_, _*_, _≤_, _<_}
 use native.Mathlib.Nat.{add-zero}
 use native.Mathlib.Omega.{arith}
@@ -8,7 +8,7 @@ use lib.ListN.{length, getD, drop, length-map}
 use Rattle.tables.specs.Tables.{zeros, flat, putAt, newest}
 use Rattle.tables.proofs.PutLaws.{put-inside, put-before}
 use Rattle.tables.proofs.FlatLaws.{strided-map, append-entry}
-use Rattle.tables.proofs.NewestLaws.{newest-same, newest-push, newest-pop, newest-drop}
+use Rattle.tables.proofs.NewestLaws.{newest-all, newest-push, newest-pop, newest-drop}
 use Rattle.standard.specs.Table.{Node, cells}
 use Rattle.judge.specs.Nodes.{noNode, topNode, underTop}
 use Rattle.judge.specs.NodeTable.{nodeAt, sizeAt}
@@ -70,19 +70,9 @@ node-read [] rest i h = let e : ⊥ = omega arith in absurd e
 node-read (n ∷ ns) rest zero h = refl
 node-read (n ∷ ns) rest (suc i) h = node-behind n (flat (map cells ns) ++ rest) i ∙ node-read ns rest i (omega arith)
 
-newest-oldest : {A : Type 0} (read : ℕ → A) (n : ℕ) → newest read (suc n) ≡ newest (λ i. read (suc i)) n ++ (read 0 ∷ [])
-newest-oldest read zero = refl
-newest-oldest read (suc n) = ap (λ l. read (suc n) ∷ l) (newest-oldest read n)
-
-newest-reversed : {A : Type 0} (l : List A) (default : A) → newest (λ i. getD l i default) (length l) ≡ reverse l
-newest-reversed [] default = refl
-newest-reversed {A} (a ∷ l) default =
-    newest-oldest (λ i. getD (a ∷ l) i default) (length l) ∙ ap (λ (m : List A). m ++ (a ∷ [])) (newest-reversed l default) ∙ sym (reverse-cons a l)
-
 -- the first nodes of the table, the newest first
 pub table-read : (ns : List Node) (rest : List ℕ) → newest (nodeAt (flat (map cells ns) ++ rest)) (length ns) ≡ reverse ns
-table-read ns rest =
-    newest-same (λ i. getD ns i noNode) (nodeAt (flat (map cells ns) ++ rest)) (length ns) (node-read ns rest) ∙ newest-reversed ns noNode
+table-read ns rest = newest-all (nodeAt (flat (map cells ns) ++ rest)) ns noNode (node-read ns rest)
 
 -- One node more
 

@@ -17,7 +17,8 @@ use correctness::Input;
 use correctness::Leaf;
 use correctness::Typed;
 
-// A node before it is put into the table: 01's nine numbers.
+// A node before it is put into the table: 01's nine numbers. Laid out as in C, for callers who lend a table of such records.
+#[repr(C)]
 pub struct Node {
     pub kind: u32,
     pub number: u32,
@@ -66,7 +67,7 @@ fn typed(kind: u32, number: u32, count: u32, place: u32, size: u32, ty: Correctn
 }
 
 // A kind without a child, by what type it has; the four hashes are 8 to 11.
-fn leaf_of(kind: u32) -> Leaf
+pub fn leaf_of(kind: u32) -> Leaf
     ensures { λ r. ⌜ r ≡ leafOf kind ⌝ }
 {
     match kind {
@@ -107,7 +108,7 @@ pub fn type_at(nodes: &[u32], i: usize) -> Correctness
 }
 
 // The size of the subtree whose root is node number i.
-fn size_at(nodes: &[u32], i: usize) -> u32
+pub fn size_at(nodes: &[u32], i: usize) -> u32
     requires { ⌜ 9 * i + 8 < length (now nodes) ⌝ }
     ensures { λ r. ⌜ r ≡ sizeAt (now (nodes .entry)) i ⌝ }
 {
@@ -115,7 +116,7 @@ fn size_at(nodes: &[u32], i: usize) -> u32
 }
 
 // The rule of a kind with one child, in place of the closure that decode.rs gives to its `reduce1`. n: is 18.
-fn cast(kind: u32, x: Correctness) -> Typed
+pub fn cast(kind: u32, x: Correctness) -> Typed
     ensures { λ r. ⌜ r ≡ castOf kind x ⌝ }
 {
     match kind {
@@ -130,7 +131,7 @@ fn cast(kind: u32, x: Correctness) -> Typed
 }
 
 // The rule of a kind with two children. or_i is 25.
-fn combine(kind: u32, x: Correctness, y: Correctness) -> Typed
+pub fn combine(kind: u32, x: Correctness, y: Correctness) -> Typed
     ensures { λ r. ⌜ r ≡ combinationOf kind x y ⌝ }
 {
     match kind {
@@ -144,7 +145,7 @@ fn combine(kind: u32, x: Correctness, y: Correctness) -> Typed
 }
 
 // Why a rule refuses, as 01's reason.
-fn reason(answer: Typed) -> u32
+pub fn reason(answer: Typed) -> u32
     ensures { λ r. ⌜ r ≡ reasons.reason answer ⌝ }
 {
     match answer {

@@ -150,12 +150,6 @@ pub fn put_key(out: &mut [u8], at: usize, keys: &[u32], i: usize) -> usize
     put_word(out, at, 8, cell(keys, i), b'\n')
 }
 
-fn long(x: u32) -> usize
-    ensures { λ r. ⌜ r ≡ x ⌝ }
-{
-    x as usize
-}
-
 // Line k of a listing, at `at`: 0 is the header, then come the nodes, then the keys. Answers as the lines do.
 pub fn put_line(
     out: &mut [u8],
@@ -170,7 +164,7 @@ pub fn put_line(
     if k == 0 {
         return put_header(out, at, h);
     }
-    let count = long(h.nodes);
+    let count = tables::long(h.nodes);
     if k <= count {
         return put_node(out, at, nodes, (k - 1) as u32);
     }

@@ -1,6 +1,6 @@
 -- For the proof: what carrying a row out needs of the tables is there, where the nodes are those of the finished trees and the state is good. Assumes nothing.
 use mathlib.Core.Path.{_≡_, ap}
-use mathlib.Core.Bool.{Bool, true, false, false≢true}
+use mathlib.Core.Bool.{Bool, true, false}
 use mathlib.Core.List.{List, _∷_}
 use mathlib.Core.Logic.{⊎-elim, _⊎_}
 use Prim.Native.Nat.{ℕ, zero, suc, _+_, _*_, _≤_, _<_}
@@ -23,7 +23,7 @@ use Rattle.forest.specs.TableLaws.{finished}
 use Rattle.lists.specs.Small.{SmallLexemes, SmallK}
 use Rattle.lists.specs.SmallLaws.{SmallAsks, SmallFound, Countable, row-small}
 use Rattle.lists.specs.Ready.{mostCounted, Ready, ReadyReading}
-use Rattle.lists.specs.StepLaws.{taken}
+use Rattle.lists.specs.StepLaws.{few, taken}
 
 -- Counting trees
 
@@ -64,9 +64,6 @@ countable segwit tokens (ThreshW j n) work left done g h k =
 countable segwit tokens (ThreshE j n) work left done g h k = tt
 
 module _ (segwit : Bool) (m : ℕ) (table keys : List ℕ) (inside : 9 * m ≤ length table) (few-nodes : m + 1 < 4294967296) where
-  few : {A : Type 0} → within 9 0 14 ≡ true → A
-  few e = absurd (false≢true e)
-
   there : (k : ℕ) (done : Trees) → Forest segwit (newest (nodeAt table) m) keys done → k ≤ many done → Finished k m table
   there k done f h = finished segwit k m table done f h inside few-nodes
 

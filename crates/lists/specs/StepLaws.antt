@@ -37,6 +37,10 @@ Tied segwit (goes l) (machine.stops r) = ⊥
 Tied segwit (stops q) (machine.goes s) = ⊥
 Tied segwit (stops q) (machine.stops r) = q ≡ r
 
+-- too few trees would be refused by no number of 01
+pub few : {A : Type 0} → within 9 0 14 ≡ true → A
+few e = absurd (false≢true e)
+
 -- the first n trees of the stack, or it has fewer
 pub taken : {A : Type 0} (n : ℕ) (ts : Trees) (none : A) (onward : Trees → Trees → A)
     → ((xs : Trees) × (rest : Trees) × (many xs ≡ n) × (ts ≡ _⊕_ xs rest)) ⊎ (takeTrees n ts none onward ≡ none)
@@ -88,10 +92,6 @@ module _ (segwit : Bool) (limits : Limits) where
         went (es ++ work) (newLeaf (leafKind (tree.Multi k ks)) k (length (leafOffsets (tree.Multi k ks))) (length keys) ∷ nodes) (keys ++ leafOffsets (tree.Multi k ks)) (leaf (tree.Multi k ks) ⊳ done) (rw (leaf-keys-length (tree.Multi k ks)) (leaf-made segwit (tree.Multi k ks) done f))
     leaf-tied es (tree.MultiA k d ds) done f =
         went (es ++ work) (newLeaf (leafKind (tree.MultiA k d ds)) k (length (leafOffsets (tree.MultiA k d ds))) (length keys) ∷ nodes) (keys ++ leafOffsets (tree.MultiA k d ds)) (leaf (tree.MultiA k d ds) ⊳ done) (rw (leaf-keys-length (tree.MultiA k d ds)) (leaf-made segwit (tree.MultiA k d ds) done f))
-
-    -- too few trees would be refused by no number of 01
-    few : {A : Type 0} → within 9 0 14 ≡ true → A
-    few e = absurd (false≢true e)
 
     module _ (tokens : List Lexeme) where
       thresh-tied : (k : ℕ) (x : Tree) (xs rest : Trees) (b : Bool) → within 1 k (suc (many xs)) ≡ b → Forest segwit nodes keys (x ⊳ (_⊕_ xs rest))

@@ -19,9 +19,10 @@ use Rattle.work_list.proofs.WorkLaws.{entered-one, entered-two, entered-three}
 use Rattle.node_store.proofs.KeyLaws.{offsets-length}
 use Rattle.lists.specs.Small.{SmallEntry, SmallEntries}
 use Rattle.lists.specs.Ready.{mostCounted, Ready}
-use Rattle.perform.specs.declared.State.{State}
-use Rattle.perform.specs.declared.Step.{Step}
-use Rattle.perform.specs.View.{Inside, Enters, Leaves, Keyed, Performs}
+use Rattle.writes.specs.declared.State.{State}
+use Rattle.writes.specs.declared.Step.{Step}
+use Rattle.writes.specs.Written.{Enters, Leaves, Keyed}
+use Rattle.perform.specs.View.{Inside, Performs}
 use Rattle.perform.proofs.PerformLaws.{enters-performs, leaf-performs, verified-performs, keyed-performs}
 
 -- What the rows' entries are as numbers

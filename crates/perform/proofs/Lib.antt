@@ -1,4 +1,3 @@
 -- Laws that the proofs of the functions cite.
-pub mod RoomLaws
 pub mod PerformLaws
 pub mod ArmLaws

@@ -21,13 +21,14 @@ use Rattle.row.specs.Request as request
 use Rattle.judge.specs.Nodes.{Making, makes, refuses, newLeaf, reduceOne, reduceTwo, reduceThree, reduceMany}
 use Rattle.judge.specs.NodeTable.{nodeAt}
 use Rattle.work_list.specs.Work.{workOf}
-use Rattle.node_store.proofs.NodeLaws.{put-newest}
+use Rattle.judge.specs.NodeTableLaws.{put-newest}
 use Rattle.lists.specs.Lists.{Lists, goes, stops, fitting, made}
 use Rattle.lists.specs.FittingLaws.{all-fits, no-work-room, no-node-room, no-key-room}
-use Rattle.perform.specs.declared.State.{State}
-use Rattle.perform.specs.declared.Step.{Step}
-use Rattle.perform.specs.declared.Step.the-variants as step
-use Rattle.perform.specs.View.{viewOf, seen, roomOf, performOn, Inside, counts, stopped, Enters, Stores, Finishes, Verified, Keyed, Behind, Kept, Performs}
+use Rattle.writes.specs.declared.State.{State}
+use Rattle.writes.specs.declared.Step.{Step}
+use Rattle.writes.specs.declared.Step.the-variants as step
+use Rattle.writes.specs.Written.{counts, stopped, Enters, Stores, Finishes, Verified, Keyed}
+use Rattle.perform.specs.View.{viewOf, seen, roomOf, performOn, Inside, Behind, Kept, Performs}
 
 module _ (tokens nodes keys work : List ℕ) (s : State) (inside : Inside nodes keys work s) where
   -- The lists before

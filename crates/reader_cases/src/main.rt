@@ -2,8 +2,8 @@
 // and with each table one entry too small, odd cells included, and junk in all of them before. For each run it writes: the
 // script kind and the script; number, reason, place, tokens, steps, nodes and keys; then, each on a line of its own and
 // whole, cell by cell in hexadecimal, the token table (t), the node table (n), the key table (k) and the work table (w).
-// The stored output was not taken from this program: a reading of document 01 in Python, which shares no text with the
-// definitions and the code, wrote it, and found the least room of each table with which a script's answer stays the same.
+// The stored output is not taken from this program: tests/reader_cases.py writes it with a reader of its own, and finds by
+// trying the least room of each table with which a script's answer stays the same.
 ghost use Prim.Native.Nat.{_+_, _*_, _≤_};
 ghost use lib.ListN.{length};
 use decode::Answer;

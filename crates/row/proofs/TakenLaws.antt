@@ -10,12 +10,17 @@ use lib.Dec.{eqb}
 use borrow.Author.Tests.{eq-eqb, ne-eqb}
 use Rattle.tables.specs.Choose.{pick}
 use Rattle.lex.specs.Token.{token, lexeme, Lexeme, num, NUM}
+use Rattle.cursor.specs.declared.NextToken.{NextToken}
+use Rattle.cursor.specs.declared.NextToken.the-variants as next-token
+use Rattle.cursor.specs.declared.Took.{Took}
+use Rattle.cursor.specs.Reading.{nextOf, tookOf}
 use Rattle.standard.specs.Rows.{NonTerm, Expression, Point, Act, readOn, putBack, refuse, Case, other, look, cases, follow, actAt, readFrom}
 use Rattle.row.specs.declared.Row.{Row}
 use Rattle.row.specs.declared.Row.the-variants as row
 use Rattle.row.specs.declared.Found.{Found}
 use Rattle.row.specs.declared.Taken.{Taken}
 use Rattle.row.specs.declared.Taken.the-variants as taken
+use Rattle.row.specs.declared.Ahead.{Ahead}
 use Rattle.row.specs.declared.Ahead.the-variants as ahead
 use Rattle.row.specs.Tokens.{tokenAt, lexemesLeft, takenOf, aheadOf, InTable}
 use Rattle.row.specs.Request.{Request, refused, entries, Reading, reading, readingAsked, requestOf, readingOf}
@@ -38,14 +43,28 @@ number-is n k a b e = ap (λ (t : Bool). pick t a b) (eq-eqb n k e)
 pub number-not : (n k : ℕ) (a b : Act) → (n ≡ k → ⊥) → pick (eqb n k) a b ≡ b
 number-not n k a b e = ap (λ (t : Bool). pick t a b) (ne-eqb n k e)
 
--- the two ways in which `next` and `peek` answer
-pub next-is : (table : List ℕ) (left : ℕ) → (left ≡ 0 → ⊥) → taken.Token (getD table (3 * (left - 1)) 0) (getD table (3 * (left - 1) + 1) 0) (getD table (3 * (left - 1) + 2) 0) (left - 1) ≡ takenOf table left
-next-is table zero h = absurd (h refl)
-next-is table (suc rest) h = let e : suc rest - 1 ≡ rest = omega arith in ap (λ (i : ℕ). taken.Token (getD table (3 * i) 0) (getD table (3 * i + 1) 0) (getD table (3 * i + 2) 0) i) e
+-- what `next` and `peek` make of the cursor's answer
+abbrev withLeft : NextToken → ℕ → Taken
+withLeft next-token.Nothing left = taken.Nothing
+withLeft (next-token.Token code number place) left = taken.Token code number place left
 
-pub ahead-is : (table : List ℕ) (left : ℕ) → (left ≡ 0 → ⊥) → ahead.Code (getD table (3 * (left - 1)) 0) ≡ aheadOf table left
-ahead-is table zero h = absurd (h refl)
-ahead-is table (suc rest) h = let e : suc rest - 1 ≡ rest = omega arith in ap (λ (i : ℕ). ahead.Code (getD table (3 * i) 0)) e
+abbrev codeOf : NextToken → Ahead
+codeOf next-token.Nothing = ahead.Nothing
+codeOf (next-token.Token code number place) = ahead.Code code
+
+with-left : (table : List ℕ) (left : ℕ) → withLeft (nextOf table left) (left - 1) ≡ takenOf table left
+with-left table zero = refl
+with-left table (suc rest) = let e : suc rest - 1 ≡ rest = omega arith in ap (λ (n : ℕ). withLeft (nextOf table (suc rest)) n) e
+
+code-of : (table : List ℕ) (left : ℕ) → codeOf (nextOf table left) ≡ aheadOf table left
+code-of table zero = refl
+code-of table (suc rest) = refl
+
+pub next-is : (table : List ℕ) (left : ℕ) (took : Took) (token : NextToken) → took ≡ tookOf (nextOf table left) (left - 1) → took .token ≡ token → withLeft token (took .left) ≡ takenOf table left
+next-is table left took token e is = ap (λ (t : NextToken). withLeft t (took .left)) (sym is) ∙ ap (λ (t : Took). withLeft (t .token) (t .left)) e ∙ with-left table left
+
+pub ahead-is : (table : List ℕ) (left : ℕ) (answer token : NextToken) → answer ≡ nextOf table left → answer ≡ token → codeOf token ≡ aheadOf table left
+ahead-is table left answer token e is = ap codeOf (sym is ∙ e) ∙ code-of table left
 
 -- how many are left after a token, and its place
 abbrev leftAfter : Taken → ℕ

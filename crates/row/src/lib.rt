@@ -1,9 +1,10 @@
 // What the rows of `decode` are read with: the work entries, what a row asks for, and the three functions through which alone
-// a row takes, looks at and puts back tokens. All of it is the decoder's own.
+// a row takes, looks at and puts back tokens (each lends a cursor, crate `cursor`). All of it is the decoder's own.
 ghost use mathlib.Core.Path.{_≡_};
 ghost use Prim.Native.Nat.{_+_, _*_, _≤_};
 ghost use lib.ListN.{length};
 ghost use Rattle.row.specs.Tokens.{takenOf, aheadOf};
+use cursor::NextToken;
 
 pub mod kind;
 
@@ -103,21 +104,25 @@ pub enum Ahead {
     Code(u32),
 }
 
-// Takes a token. The last one of the script is taken first.
+// Takes a token. The last one of the script is taken first. The cursor that is lent for it is crate `cursor`'s.
 pub fn next(tokens: &[u32], left: usize) -> Taken
     requires { ⌜ 3 * left ≤ length (now tokens) ⌝ }
     ensures { λ r. ⌜ r ≡ takenOf (now (tokens .entry)) left ⌝ }
 {
-    if left == 0 {
-        return Taken::Nothing;
-    }
-    let rest = left - 1;
-    let i = 3 * rest;
-    Taken::Token {
-        code: tokens[i],
-        number: tokens[i + 1],
-        place: tokens[i + 2],
-        left: rest,
+    let took = cursor::take(tokens, left);
+    let token = took.token;
+    match token {
+        NextToken::Nothing => Taken::Nothing,
+        NextToken::Token {
+            code,
+            number,
+            place,
+        } => Taken::Token {
+            code,
+            number,
+            place,
+            left: took.left,
+        },
     }
 }
 
@@ -126,11 +131,15 @@ pub fn peek(tokens: &[u32], left: usize) -> Ahead
     requires { ⌜ 3 * left ≤ length (now tokens) ⌝ }
     ensures { λ r. ⌜ r ≡ aheadOf (now (tokens .entry)) left ⌝ }
 {
-    if left == 0 {
-        return Ahead::Nothing;
+    let token = cursor::look(tokens, left);
+    match token {
+        NextToken::Nothing => Ahead::Nothing,
+        NextToken::Token {
+            code,
+            number: _,
+            place: _,
+        } => Ahead::Code(code),
     }
-    let i = 3 * (left - 1);
-    Ahead::Code(tokens[i])
 }
 
 // Puts the token back that was taken last.
@@ -138,5 +147,5 @@ pub fn un_next(tokens: &[u32], left: usize) -> usize
     requires { ⌜ 3 * (left + 1) ≤ length (now tokens) ⌝ }
     ensures { λ r. ⌜ r ≡ left + 1 ⌝ }
 {
-    left + 1
+    cursor::put_back(tokens, left)
 }

@@ -249,6 +249,20 @@ module _ (segwit : Bool) where
     carry-counts t d (suc most) steps h (goes s) b =
         at-count steps (s .work) (s .left) (s .done) (carryOn segwit limits most (suc steps) (stepWithin segwit limits s)) (carry-counts t d most (suc steps) (omega arith) (stepWithin segwit limits s) (bounded-next t d steps s b))
 
+-- Ample limits never act, so a run is the same under any two of them
+
+module _ (segwit : Bool) (limits other : Limits) (t d : ℕ) (h : Ample limits t d) (g : Ample other t d) where
+  carry-same : (most steps : ℕ) (a : Next) → Bounded t d steps a → carryOn segwit limits most steps a ≡ carryOn segwit other most steps a
+  carry-same zero steps (stops r) b = refl
+  carry-same zero steps (goes s) b = refl
+  carry-same (suc most) steps (stops r) b = refl
+  carry-same (suc most) steps (goes s) b =
+      let b′ = bounded-step segwit limits t d steps (s .work) (s .left) (s .done) b in
+      let p : fitting limits (step segwit (s .work) (s .left) (s .done)) ≡ step segwit (s .work) (s .left) (s .done) = ample-fits limits t d (suc steps) h (step segwit (s .work) (s .left) (s .done)) b′ in
+      let q : fitting other (step segwit (s .work) (s .left) (s .done)) ≡ step segwit (s .work) (s .left) (s .done) = ample-fits other t d (suc steps) g (step segwit (s .work) (s .left) (s .done)) b′ in
+      ap (whenEmpty (s .work) (ends steps (closes segwit (s .left) (s .done))))
+      (ap (carryOn segwit limits most (suc steps)) p ∙ carry-same most (suc steps) (step segwit (s .work) (s .left) (s .done)) b′ ∙ ap (carryOn segwit other most (suc steps)) (sym q))
+
 -- Tokens in script order and as they are read
 
 reversed : (a b c : List Lexeme) → reverseAux (reverseAux a b) c ≡ reverseAux b (a ++ c)
@@ -318,6 +332,18 @@ module _ (segwit : Bool) (limits : Limits) (lexemes : List Lexeme) where
       let fit : start segwit limits left ≡ begun = ample-fits limits (length lexemes) (pushes lexemes) 0 h begun start-bounded in
       let z : 0 + m ≡ m = omega arith in
       ap (carryOn segwit limits (8 * length lexemes + 2) 0) fit ∙ carry-complete segwit limits (length lexemes) (pushes lexemes) h m (8 * length lexemes + 2) 0 (omega arith) begun u start-bounded e p ∙ ap (λ (i : ℕ). ends i (accepted u)) z
+
+pub decode-same : (segwit : Bool) (limits other : Limits) (lexemes : List Lexeme) → Ample limits (length lexemes) (pushes lexemes) → Ample other (length lexemes) (pushes lexemes)
+    → decode segwit limits lexemes ≡ decode segwit other lexemes
+unfolding decode
+decode-same segwit limits other lexemes h g =
+    let first = begun segwit limits lexemes in
+    let b = start-bounded segwit limits lexemes in
+    let p : fitting limits first ≡ first = ample-fits limits (length lexemes) (pushes lexemes) 0 h first b in
+    let q : fitting other first ≡ first = ample-fits other (length lexemes) (pushes lexemes) 0 g first b in
+    ap (carryOn segwit limits (8 * length lexemes + 2) 0) p
+    ∙ carry-same segwit limits other (length lexemes) (pushes lexemes) h g (8 * length lexemes + 2) 0 first b
+    ∙ ap (carryOn segwit other (8 * length lexemes + 2) 0) (sym q)
 
 -- What is accepted, whatever the limits, is what a run without limits ends in
 

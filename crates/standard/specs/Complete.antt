@@ -1,4 +1,4 @@
--- The tokens of every well-typed, allowed tree are read, to a tree of the same type whose and_v chains are nested to the left.
+-- The tokens of every well-typed, allowed tree are read, to a tree of the same type that has the form that the rows build, and to the very tree if it has that form (`complete-form`).
 -- Why: a tree is read as an expression with no and_v before it (`Core`), or as a chain of such (`Parsed`). c:, v:, n: and and_b's first child let the chain float out, with the same type (laws 4 and 5); the first child of or_b, or_d, or_c, and_or and thresh is dissatisfiable, so it has no chain (laws 2 and 3). The rest is walking the rows.
 use mathlib.Core.Path.{_≡_, refl, sym, ap, _∙_}
 use mathlib.Core.Bool.{Bool, true, false, _&&_, true≢false}
@@ -17,14 +17,16 @@ use Rattle.correctness.specs.Rules.{onward}
 use Rattle.lex.specs.Token.{Data, Lexeme, op, num, push}
 use Rattle.lex.specs.Token.{BOOLAND, BOOLOR, ADD, EQUAL, NUMEQUAL, CHECKSIG, CHECKSIGADD, CHECKMULTISIG, CHECKSEQUENCEVERIFY, CHECKLOCKTIMEVERIFY, FROMALTSTACK, TOALTSTACK, DUP, IF, IFDUP, NOTIF, ELSE, ENDIF, ZERONOTEQUAL, SIZE, SWAP, VERIFY, HASH160, HASH20, BYTES32, BYTES33}
 use Rattle.tables.specs.Choose.{pick}
-use Rattle.standard.specs.Tree.{Key, key, Hash, sha256, hash256, ripemd160, hash160, Leaf, True, False, PkK, RawPkH, After, Older, HashLock, Multi, MultiA, Wrapper, alt, swap, check, dupIf, verify, nonZero, zeroNotEqual, Combination, andV, andB, orB, orD, orC, orI, Tree, Trees, leaf, wrap, join, andOr, thresh, nil, _⊳_, many, _⊕_, isAndVTree, leftNested, allLeftNested}
+use Rattle.standard.specs.Tree.{Key, key, Hash, sha256, hash256, ripemd160, hash160, Leaf, True, False, PkK, RawPkH, After, Older, HashLock, Multi, MultiA, Wrapper, alt, swap, check, dupIf, verify, nonZero, zeroNotEqual, Combination, andV, andB, orB, orD, orC, orI, Tree, Trees, leaf, wrap, join, andOr, thresh, nil, _⊳_, many, _⊕_, isAndVTree, leftNested}
+use Rattle.standard.specs.RowForm.{floats, floatedOut, rowForm}
+use Rattle.standard.specs.FormLaws.{allRowForm, wrap-form, join-form, and-or-form, thresh-form, all-form, wrap-form-parts, join-form-parts, and-or-form-parts, thresh-form-parts, all-form-parts}
 use Rattle.standard.specs.Written.{keyPush, hashOpcode, hashPush, keysBefore, addedKeysBefore, leafBefore, opening, closing, first, between, last, treeBefore, addedTreesBefore, written}
 use Rattle.standard.specs.Allowed.{within, keyForm, multiKey, multiAKey, allMultiKeys, allMultiAKeys, multiCount, multiAThreshold, allowedLeaf, threshAllowed, allowed, allAllowed}
 use Rattle.standard.specs.Types.{wrapperRule, combinationRule, AllTyped, all, not-all, andThen, ruled, typeOf, typesOf, typedLeaf, passes, judge}
 use Rattle.standard.specs.Rows.{NonTerm, Expression, WExpression, MaybeAndV, AndV, Alt, Swap, EndIf, EndIfNotIf, EndIfElse, Tern, Reduce1, Reduce2, ThreshW, ThreshE, Check, Verify, ZeroNotEqual, OrC, OrD, multiKeys, multiAKeys, inWExpression, inEndIfNotIf, inThreshW, afterVerify, putBack, actAt, isAndV, readFrom}
 use Rattle.standard.specs.Machine.{Next, goesOn, finish, step}
 use Rattle.standard.specs.Sound.{take-all}
-use Rattle.standard.specs.RuleLaws.{and-left, and-right, onward-is, givesW, takesW, wrapper-bases, combination-bases, and-or-bases, AllW, threshold-bases, leaf-base, first-dissatisfiable, and-or-dissatisfiable, and-v-not-dissatisfiable, and-v-associative, floats, wrapper-floats, and-b-floats}
+use Rattle.standard.specs.RuleLaws.{and-left, and-right, onward-is, givesW, takesW, wrapper-bases, combination-bases, and-or-bases, AllW, threshold-bases, leaf-base, first-dissatisfiable, and-or-dissatisfiable, and-v-not-dissatisfiable, and-v-associative, wrapper-floats, and-b-floats}
 use Rattle.standard.specs.Runs as runs
 use Rattle.standard.specs.Runs.{begin}
 
@@ -151,7 +153,7 @@ module _ (segwit : Bool) where
     fine : Fine end
     verified : (work : List NonTerm) (left : List Lexeme) (done : Trees) → Reach (goesOn (Expression ∷ work) (op VERIFY ∷ treeRead x left) done) (goesOn (Verify ∷ work) left (x ⊳ done))
     single : isAndVTree x ≡ false
-    nested : leftNested x ≡ true
+    form : rowForm x ≡ true
 
   abbrev Cores : Trees → Type 0
   Cores nil = Unit {0}
@@ -165,6 +167,7 @@ module _ (segwit : Bool) where
     cores : Cores us
     typed : typeOf segwit (chain us x) ≡ Is c
     reads : (left : List Lexeme) → treeRead t left ≡ treeRead x (chainRead us left)
+    kept : rowForm t ≡ true → chain us x ≡ t
 
   -- The same as one tree, where MaybeAndV stands under the expression
   record Canon (t : Tree) (c : Correctness) : Type 0 where
@@ -175,16 +178,18 @@ module _ (segwit : Bool) where
     rest : List Lexeme → List Lexeme
     ends : (left : List Lexeme) → treeRead x left ≡ end ∷ rest left
     fine : Fine end
-    nested : leftNested x ≡ true
+    form : rowForm x ≡ true
     reads : (left : List Lexeme) → treeRead t left ≡ treeRead x left
+    kept : rowForm t ≡ true → x ≡ t
 
   -- A W, read by its own row
   record WParsed (t : Tree) (c : Correctness) : Type 0 where
     x : Tree
     typed : typeOf segwit x ≡ Is c
     runs : (work : List NonTerm) (left : List Lexeme) (done : Trees) → Reach (goesOn (WExpression ∷ work) (treeRead x left) done) (goesOn work left (x ⊳ done))
-    nested : leftNested x ≡ true
+    form : rowForm x ≡ true
     reads : (left : List Lexeme) → treeRead t left ≡ treeRead x left
+    kept : rowForm t ≡ true → x ≡ t
 
   -- types of nodes from those of their children, and back
 
@@ -230,9 +235,9 @@ module _ (segwit : Bool) where
       later (rw (goes-on (cs .0) (chainRead us left)) at-once) ⨾ cs .0 .runs (AndV ∷ work) (chainRead us left) (x ⊳ done)
       ⨾ chain-run us (cs .1) u x c e work left done stop
 
-  chain-nested : (us : Trees) → Cores us → (x : Tree) → Core x → leftNested (chain us x) ≡ true
-  chain-nested nil cs x c = c .nested
-  chain-nested (u ⊳ us) cs x c = rw (c .single, chain-nested us (cs .1) u (cs .0), c .nested)
+  chain-form : (us : Trees) → Cores us → (x : Tree) → Core x → rowForm (chain us x) ≡ true
+  chain-form nil cs x c = c .form
+  chain-form (u ⊳ us) cs x c = join-form andV (chain us u) x refl (c .single) (chain-form us (cs .1) u (cs .0)) (c .form)
 
   canon : (t : Tree) (c : Correctness) → Parsed t c → Canon t c
   canon t c p = record {
@@ -243,33 +248,34 @@ module _ (segwit : Bool) where
     rest = λ left. p .core .rest (chainRead (p .us) left);
     ends = λ left. chain-read (p .us) (p .x) left ∙ p .core .ends (chainRead (p .us) left);
     fine = p .core .fine;
-    nested = chain-nested (p .us) (p .cores) (p .x) (p .core);
+    form = chain-form (p .us) (p .cores) (p .x) (p .core);
     reads = λ left. p .reads left ∙ sym (chain-read (p .us) (p .x) left);
+    kept = p .kept;
   }
 
   -- an expression with nothing before it
-  alone : (t x : Tree) (c : Correctness) → Core x → typeOf segwit x ≡ Is c → ((left : List Lexeme) → treeRead t left ≡ treeRead x left) → Parsed t c
-  alone t x c k e r = record { us = nil; x = x; core = k; cores = tt; typed = e; reads = r }
+  alone : (t x : Tree) (c : Correctness) → Core x → typeOf segwit x ≡ Is c → ((left : List Lexeme) → treeRead t left ≡ treeRead x left) → (rowForm t ≡ true → x ≡ t) → Parsed t c
+  alone t x c k e r h = record { us = nil; x = x; core = k; cores = tt; typed = e; reads = r; kept = h }
 
   -- a tree that can be dissatisfied has no and_v before it
   abbrev Solo : Tree → Correctness → Type 0
-  Solo t c = (x : Tree) × Core x × (typeOf segwit x ≡ Is c) × ((left : List Lexeme) → treeRead t left ≡ treeRead x left)
+  Solo t c = (x : Tree) × Core x × (typeOf segwit x ≡ Is c) × ((left : List Lexeme) → treeRead t left ≡ treeRead x left) × (rowForm t ≡ true → x ≡ t)
 
   solo-at : (t : Tree) (c : Correctness) (us : Trees) (x : Tree) → Core x → typeOf segwit (chain us x) ≡ Is c → ((left : List Lexeme) → treeRead t left ≡ treeRead x (chainRead us left))
-      → c .dissatisfiable ≡ true → Solo t c
-  solo-at t c nil x k e r d = (x, k, e, r)
-  solo-at t c (u ⊳ us) x k e r d =
+      → (rowForm t ≡ true → chain us x ≡ t) → c .dissatisfiable ≡ true → Solo t c
+  solo-at t c nil x k e r h d = (x, k, e, r, h)
+  solo-at t c (u ⊳ us) x k e r kept d =
       let h = join-parts andV (chain us u) x c e in
       absurd (true≢false (sym d ∙ and-v-not-dissatisfiable (h .0) (h .1) c (h .4)))
 
   solo : (t : Tree) (c : Correctness) → Parsed t c → c .dissatisfiable ≡ true → Solo t c
-  solo t c p d = solo-at t c (p .us) (p .x) (p .core) (p .typed) (p .reads) d
+  solo t c p d = solo-at t c (p .us) (p .x) (p .core) (p .typed) (p .reads) (p .kept) d
 
   -- an expression whose last token is no EQUAL
   plain : (x : Tree) (c : Correctness) (e : Lexeme) (r : List Lexeme → List Lexeme) → typeOf segwit x ≡ Is c → ((left : List Lexeme) → treeRead x left ≡ e ∷ r left) → Fine e
-      → actAt segwit afterVerify e ≡ putBack (Verify ∷ []) → isAndVTree x ≡ false → leftNested x ≡ true
+      → actAt segwit afterVerify e ≡ putBack (Verify ∷ []) → isAndVTree x ≡ false → rowForm x ≡ true
       → ((work : List NonTerm) (left : List Lexeme) (done : Trees) → Reach (goesOn (Expression ∷ work) (treeRead x left) done) (goesOn work left (x ⊳ done))) → Core x
-  plain x c e r te en f back si ne rn = record {
+  plain x c e r te en f back si fo rn = record {
     type = c;
     typed = te;
     runs = rn;
@@ -279,7 +285,7 @@ module _ (segwit : Bool) where
     fine = f;
     verified = λ work left done. later (rw (en left, back) (rw (en left) at (rn (Verify ∷ work) left done)));
     single = si;
-    nested = ne;
+    form = fo;
   }
 
   -- Leaves
@@ -292,7 +298,7 @@ module _ (segwit : Bool) where
 
   plain-leaf : (l : Leaf) (e : Lexeme) (r : List Lexeme → List Lexeme) → ((left : List Lexeme) → leafRead l left ≡ e ∷ r left) → Fine e → actAt segwit afterVerify e ≡ putBack (Verify ∷ [])
       → ((work : List NonTerm) (left : List Lexeme) (done : Trees) → Reach (goesOn (Expression ∷ work) (leafRead l left) done) (goesOn work left (leaf l ⊳ done))) → Parsed (leaf l) (leafType l)
-  plain-leaf l e r en f back rn = alone (leaf l) (leaf l) (leafType l) (plain (leaf l) (leafType l) e r refl en f back refl refl rn) refl (λ left. refl)
+  plain-leaf l e r en f back rn = alone (leaf l) (leaf l) (leafType l) (plain (leaf l) (leafType l) e r refl en f back refl refl rn) refl (λ left. refl) (λ f. refl)
 
   key-code : (z : Bool) (code : ℕ) (d : Data) → keyForm z (key code d) ≡ true → code ≡ pick z BYTES33 BYTES32
   key-code true code d g = eqb-true code BYTES33 (and-left (eqb code BYTES33) _ g)
@@ -376,7 +382,7 @@ module _ (segwit : Bool) where
     fine = (λ left. refl, refl, refl, λ k n. refl);
     verified = hash-verified h d;
     single = refl;
-    nested = refl;
+    form = refl;
   }
 
   leaf-par : (l : Leaf) → allowedLeaf segwit l ≡ true → Parsed (leaf l) (leafType l)
@@ -386,7 +392,7 @@ module _ (segwit : Bool) where
   leaf-par (RawPkH d) g = plain-leaf (RawPkH d) (op VERIFY) (λ left. op EQUAL ∷ push HASH20 d ∷ op HASH160 ∷ op DUP ∷ left) (λ left. refl) (λ left. refl, refl, refl, λ k n. refl) refl (λ work left done. later at-once)
   leaf-par (After n) g = plain-leaf (After n) (op CHECKLOCKTIMEVERIFY) (λ left. num n ∷ left) (λ left. refl) (λ left. refl, refl, refl, λ k n. refl) refl (λ work left done. later (made (leaf (After n)) (leaf-passes (After n) g) at-once))
   leaf-par (Older n) g = plain-leaf (Older n) (op CHECKSEQUENCEVERIFY) (λ left. num n ∷ left) (λ left. refl) (λ left. refl, refl, refl, λ k n. refl) refl (λ work left done. later (made (leaf (Older n)) (leaf-passes (Older n) g) at-once))
-  leaf-par (HashLock h d) g = alone (leaf (HashLock h d)) (leaf (HashLock h d)) (leafType (HashLock h d)) (hash-core h d) refl (λ left. refl)
+  leaf-par (HashLock h d) g = alone (leaf (HashLock h d)) (leaf (HashLock h d)) (leafType (HashLock h d)) (hash-core h d) refl (λ left. refl) (λ f. refl)
   leaf-par (Multi k ks) g = plain-leaf (Multi k ks) (op CHECKMULTISIG) (λ left. num (length ks) ∷ keysRead ks (num k ∷ left)) (λ left. refl) (λ left. refl, refl, refl, λ k n. refl) refl (multi-run k ks g)
   leaf-par (MultiA k d ds) g = plain-leaf (MultiA k d ds) (op NUMEQUAL) (λ left. num k ∷ addedKeysRead ds (op CHECKSIG ∷ push BYTES32 d ∷ left)) (λ left. refl) (λ left. refl, refl, refl, λ k n. refl) refl (multi-a-run k d ds g)
 
@@ -402,6 +408,11 @@ module _ (segwit : Bool) where
       let t = wrap-typed w x (h .1) (g .0) (h .3) (g .1) in
       (g .0, t, join-typed andV (chain us u) (wrap w x) (h .0) (g .0) r (h .2) t (g .2))
 
+  -- where no and_v may stand under a node, none floats out of it
+  none-float : (f : Tree → Tree) (us : Trees) (x t : Tree) → chain us x ≡ t → isAndVTree t ≡ false → chain us (f x) ≡ f t
+  none-float f nil x t e n = ap f e
+  none-float f (u ⊳ us) x t e n = absurd (true≢false (ap isAndVTree e ∙ n))
+
   float : (w : Wrapper) (t : Tree) (c r : Correctness) → floats w ≡ true → wrapperRule segwit w c ≡ Is r → ((left : List Lexeme) → reverseAux (opening w) left ≡ left)
       → ((x : Tree) (z : Correctness) → Core x → typeOf segwit (wrap w x) ≡ Is z → Core (wrap w x)) → Parsed t c → Parsed (wrap w t) r
   float w t c r n f o core p =
@@ -413,29 +424,33 @@ module _ (segwit : Bool) where
         cores = p .cores;
         typed = h .2;
         reads = λ left. rw (o left, o (chainRead (p .us) left)) (ap (reverseAux (closing w)) (p .reads left));
+        kept = λ f. let h = wrap-form-parts w t f in none-float (wrap w) (p .us) (p .x) t (p .kept (h .1)) (rw n at (h .0));
       }
 
   core-check : (x : Tree) (z : Correctness) → Core x → typeOf segwit (wrap check x) ≡ Is z → Core (wrap check x)
-  core-check x z c e = plain (wrap check x) z (op CHECKSIG) (treeRead x) e (λ left. refl) (λ left. refl, refl, refl, λ k n. refl) refl refl (c .nested)
+  core-check x z c e = plain (wrap check x) z (op CHECKSIG) (treeRead x) e (λ left. refl) (λ left. refl, refl, refl, λ k n. refl) refl refl (wrap-form check x (c .single) (c .form))
       (λ work left done. later (c .runs (Check ∷ work) left done) ⨾ later (made (wrap check x) (wrap-passes check x z e) at-once))
 
   core-zero-not-equal : (x : Tree) (z : Correctness) → Core x → typeOf segwit (wrap zeroNotEqual x) ≡ Is z → Core (wrap zeroNotEqual x)
-  core-zero-not-equal x z c e = plain (wrap zeroNotEqual x) z (op ZERONOTEQUAL) (treeRead x) e (λ left. refl) (λ left. refl, refl, refl, λ k n. refl) refl refl (c .nested)
+  core-zero-not-equal x z c e = plain (wrap zeroNotEqual x) z (op ZERONOTEQUAL) (treeRead x) e (λ left. refl) (λ left. refl, refl, refl, λ k n. refl) refl refl (wrap-form zeroNotEqual x (c .single) (c .form))
       (λ work left done. later (c .runs (ZeroNotEqual ∷ work) left done) ⨾ later (made (wrap zeroNotEqual x) (wrap-passes zeroNotEqual x z e) at-once))
 
   core-verify : (x : Tree) (z : Correctness) → Core x → typeOf segwit (wrap verify x) ≡ Is z → Core (wrap verify x)
-  core-verify x z c e = plain (wrap verify x) z (op VERIFY) (treeRead x) e (λ left. refl) (λ left. refl, refl, refl, λ k n. refl) refl refl (c .nested)
+  core-verify x z c e = plain (wrap verify x) z (op VERIFY) (treeRead x) e (λ left. refl) (λ left. refl, refl, refl, λ k n. refl) refl refl (wrap-form verify x (c .single) (c .form))
       (λ work left done. c .verified work left done ⨾ later (made (wrap verify x) (wrap-passes verify x z e) at-once))
 
   -- d: and j:
-  core-if : (w : Wrapper) (t : Tree) (c r : Correctness) (p : List Lexeme → List Lexeme) (k : Canon t c) → typeOf segwit (wrap w (k .x)) ≡ Is r
+  core-if : (w : Wrapper) → floats w ≡ false → (t : Tree) (c r : Correctness) (p : List Lexeme → List Lexeme) (k : Canon t c) → typeOf segwit (wrap w (k .x)) ≡ Is r
       → ((left : List Lexeme) → treeRead (wrap w (k .x)) left ≡ op ENDIF ∷ treeRead (k .x) (op IF ∷ p left))
       → ((work : List NonTerm) (left : List Lexeme) (done : Trees) → step segwit (EndIf ∷ work) (op IF ∷ p left) done ≡ goesOn (Reduce1 w ∷ work) left done) → Core (wrap w (k .x))
-  core-if w t c r p k te en next = plain (wrap w (k .x)) r (op ENDIF) (λ left. treeRead (k .x) (op IF ∷ p left)) te en (λ left. refl, refl, refl, λ k n. refl) refl refl (k .nested)
+  core-if w n t c r p k te en next = plain (wrap w (k .x)) r (op ENDIF) (λ left. treeRead (k .x) (op IF ∷ p left)) te en (λ left. refl, refl, refl, λ k n. refl) refl refl (wrap-form w (k .x) (rw n) (k .form))
       (λ work left done.
       let p1 : Reach (goesOn (Expression ∷ work) (treeRead (wrap w (k .x)) left) done) (goesOn (EndIf ∷ work) (op IF ∷ p left) (k .x ⊳ done)) = rw (en left) (later (k .runs (EndIf ∷ work) (op IF ∷ p left) done refl)) in
       let p2 : Reach (goesOn (EndIf ∷ work) (op IF ∷ p left) (k .x ⊳ done)) (goesOn work left (wrap w (k .x) ⊳ done)) = later (rw (next work left (k .x ⊳ done)) (later (made (wrap w (k .x)) (wrap-passes w (k .x) r te) at-once))) in
       p1 ⨾ p2)
+
+  wrap-kept : (w : Wrapper) (t : Tree) (c : Correctness) (k : Canon t c) → rowForm (wrap w t) ≡ true → wrap w (k .x) ≡ wrap w t
+  wrap-kept w t c k f = ap (wrap w) (k .kept (wrap-form-parts w t f .1))
 
   wrap-alt : (t : Tree) (c r : Correctness) → wrapperRule segwit alt c ≡ Is r → Canon t c → WParsed (wrap alt t) r
   wrap-alt t c r f k =
@@ -444,8 +459,9 @@ module _ (segwit : Bool) where
         x = wrap alt (k .x);
         typed = te;
         runs = λ work left done. later (k .runs (Alt ∷ work) (op TOALTSTACK ∷ left) done refl) ⨾ later (made (wrap alt (k .x)) (wrap-passes alt (k .x) r te) at-once);
-        nested = k .nested;
+        form = wrap-form alt (k .x) refl (k .form);
         reads = λ left. ap (λ l. op FROMALTSTACK ∷ l) (k .reads (op TOALTSTACK ∷ left));
+        kept = wrap-kept alt t c k;
       }
 
   wrap-swap : (t : Tree) (c r : Correctness) → wrapperRule segwit swap c ≡ Is r → Canon t c → WParsed (wrap swap t) r
@@ -457,8 +473,9 @@ module _ (segwit : Bool) where
         x = wrap swap (k .x);
         typed = te;
         runs = λ work left done. back work left done ⨾ later (made (wrap swap (k .x)) (wrap-passes swap (k .x) r te) at-once);
-        nested = k .nested;
+        form = wrap-form swap (k .x) refl (k .form);
         reads = λ left. k .reads (op SWAP ∷ left);
+        kept = wrap-kept swap t c k;
       }
 
   abbrev ParB : Bool → Tree → Correctness → Type 0
@@ -476,13 +493,13 @@ module _ (segwit : Bool) where
   one-par dupIf t c r f p =
       let k = canon t c p in
       let te = wrap-typed dupIf (k .x) c r (k .typed) f in
-      alone (wrap dupIf t) (wrap dupIf (k .x)) r (core-if dupIf t c r (λ left. op DUP ∷ left) k te (λ left. refl) (λ work left done. refl)) te (λ left. ap (λ l. op ENDIF ∷ l) (k .reads (op IF ∷ op DUP ∷ left)))
+      alone (wrap dupIf t) (wrap dupIf (k .x)) r (core-if dupIf refl t c r (λ left. op DUP ∷ left) k te (λ left. refl) (λ work left done. refl)) te (λ left. ap (λ l. op ENDIF ∷ l) (k .reads (op IF ∷ op DUP ∷ left))) (wrap-kept dupIf t c k)
   one-par verify t c r f p = float verify t c r refl f (λ left. refl) core-verify p
   one-par nonZero t c r f p =
       let k = canon t c p in
       let te = wrap-typed nonZero (k .x) c r (k .typed) f in
-      alone (wrap nonZero t) (wrap nonZero (k .x)) r (core-if nonZero t c r (λ left. op ZERONOTEQUAL ∷ op SIZE ∷ left) k te (λ left. refl) (λ work left done. refl)) te
-      (λ left. ap (λ l. op ENDIF ∷ l) (k .reads (op IF ∷ op ZERONOTEQUAL ∷ op SIZE ∷ left)))
+      alone (wrap nonZero t) (wrap nonZero (k .x)) r (core-if nonZero refl t c r (λ left. op ZERONOTEQUAL ∷ op SIZE ∷ left) k te (λ left. refl) (λ work left done. refl)) te
+      (λ left. ap (λ l. op ENDIF ∷ l) (k .reads (op IF ∷ op ZERONOTEQUAL ∷ op SIZE ∷ left))) (wrap-kept nonZero t c k)
   one-par zeroNotEqual t c r f p = float zeroNotEqual t c r refl f (λ left. refl) core-zero-not-equal p
 
   -- Combinations
@@ -501,6 +518,11 @@ module _ (segwit : Bool) where
       let i = chains-typed ua xa us u (w .0) (join-typed andV (chain ua xa) (chain us u) (h .0) (g .0) (w .0) (h .2) (g .2) (w .1)) in
       join-typed andV (chain (_⊕_ us (xa ⊳ ua)) u) x (w .0) (g .1) r i (g .3) (w .2)
 
+  -- an and_v whose second child is none is kept
+  and-v-kept : (ua : Trees) (xa : Tree) (us : Trees) (x a b : Tree) → chain ua xa ≡ a → chain us x ≡ b → isAndVTree b ≡ false → chain (_⊕_ us (xa ⊳ ua)) x ≡ join andV a b
+  and-v-kept ua xa nil x a b e f n = rw (e, f)
+  and-v-kept ua xa (u ⊳ us) x a b e f n = absurd (true≢false (ap isAndVTree f ∙ n))
+
   and-v-par : (a b : Tree) (c d r : Correctness) → combinationRule andV c d ≡ Is r → Parsed a c → Parsed b d → Parsed (join andV a b) r
   and-v-par a b c d r f p q = record {
     us = _⊕_ (q .us) (p .x ⊳ p .us);
@@ -509,6 +531,7 @@ module _ (segwit : Bool) where
     cores = cores-append (q .us) (p .x ⊳ p .us) (q .cores) (p .core, p .cores);
     typed = chains-typed (p .us) (p .x) (q .us) (q .x) r (join-typed andV (chain (p .us) (p .x)) (chain (q .us) (q .x)) c d r (p .typed) (q .typed) f);
     reads = λ left. q .reads (treeRead a left) ∙ ap (λ l. treeRead (q .x) (chainRead (q .us) l)) (p .reads left) ∙ ap (treeRead (q .x)) (sym (chain-append (q .us) (p .x ⊳ p .us) left));
+    kept = λ h. let g = join-form-parts andV a b h in and-v-kept (p .us) (p .x) (q .us) (q .x) a b (p .kept (g .2)) (q .kept (g .3)) (g .1);
   }
 
   -- the and_v's float out of and_b's first child
@@ -523,11 +546,11 @@ module _ (segwit : Bool) where
 
   -- and_b and or_b: the W is read first, then the expression
   core-w : (k : Combination) (x y : Tree) (z : Correctness) (e : Lexeme) → typeOf segwit (join k x y) ≡ Is z → ((left : List Lexeme) → treeRead (join k x y) left ≡ e ∷ treeRead y (treeRead x left)) → Fine e
-      → actAt segwit afterVerify e ≡ putBack (Verify ∷ []) → isAndVTree (join k x y) ≡ false → leftNested (join k x y) ≡ true
+      → actAt segwit afterVerify e ≡ putBack (Verify ∷ []) → isAndVTree (join k x y) ≡ false → rowForm (join k x y) ≡ true
       → ((work : List NonTerm) (left : List Lexeme) (done : Trees) → step segwit (Expression ∷ work) (e ∷ left) done ≡ goesOn (WExpression ∷ Expression ∷ Reduce2 k ∷ work) left done)
       → ((work : List NonTerm) (left : List Lexeme) (done : Trees) → Reach (goesOn (WExpression ∷ work) (treeRead y left) done) (goesOn work left (y ⊳ done)))
       → Core x → Core (join k x y)
-  core-w k x y z e te en f back si ne next ry c = plain (join k x y) z e (λ left. treeRead y (treeRead x left)) te en f back si ne
+  core-w k x y z e te en f back si fo next ry c = plain (join k x y) z e (λ left. treeRead y (treeRead x left)) te en f back si fo
       (λ work left done.
       let p1 : Reach (goesOn (Expression ∷ work) (treeRead (join k x y) left) done) (goesOn (Expression ∷ Reduce2 k ∷ work) (treeRead x left) (y ⊳ done)) =
       rw (en left) (later (rw (next work (treeRead y (treeRead x left)) done) (ry (Expression ∷ Reduce2 k ∷ work) (treeRead x left) done))) in
@@ -539,26 +562,30 @@ module _ (segwit : Bool) where
       record {
         us = p .us;
         x = join andB (p .x) (q .x);
-        core = core-w andB (p .x) (q .x) (h .0) (op BOOLAND) (h .1) (λ left. refl) (λ left. refl, refl, refl, λ k n. refl) refl refl (rw (p .core .nested, q .nested)) (λ work left done. refl) (q .runs) (p .core);
+        core = core-w andB (p .x) (q .x) (h .0) (op BOOLAND) (h .1) (λ left. refl) (λ left. refl, refl, refl, λ k n. refl) refl refl (join-form andB (p .x) (q .x) (p .core .single) refl (p .core .form) (q .form)) (λ work left done. refl) (q .runs) (p .core);
         cores = p .cores;
         typed = h .2;
         reads = λ left. ap (λ l. op BOOLAND ∷ l) (q .reads (treeRead a left) ∙ ap (treeRead (q .x)) (p .reads left));
+        kept = λ f. let g = join-form-parts andB a b f in none-float (λ t. join andB t (q .x)) (p .us) (p .x) a (p .kept (g .2)) (g .0) ∙ ap (join andB a) (q .kept (g .3));
       }
+
+  join-kept : (k : Combination) (a b x y : Tree) → (rowForm a ≡ true → x ≡ a) → (rowForm b ≡ true → y ≡ b) → rowForm (join k a b) ≡ true → join k x y ≡ join k a b
+  join-kept k a b x y p q f = let h = join-form-parts k a b f in rw (p (h .2), q (h .3))
 
   or-b-par : (a b : Tree) (c d r : Correctness) → combinationRule orB c d ≡ Is r → Solo a c → WParsed b d → Parsed (join orB a b) r
   or-b-par a b c d r f p q =
       let te = join-typed orB (p .0) (q .x) c d r (p .2) (q .typed) f in
       alone (join orB a b) (join orB (p .0) (q .x)) r
-      (core-w orB (p .0) (q .x) r (op BOOLOR) te (λ left. refl) (λ left. refl, refl, refl, λ k n. refl) refl refl (rw (p .1 .nested, q .nested)) (λ work left done. refl) (q .runs) (p .1)) te
-      (λ left. ap (λ l. op BOOLOR ∷ l) (q .reads (treeRead a left) ∙ ap (treeRead (q .x)) (p .3 left)))
+      (core-w orB (p .0) (q .x) r (op BOOLOR) te (λ left. refl) (λ left. refl, refl, refl, λ k n. refl) refl refl (join-form orB (p .0) (q .x) (p .1 .single) refl (p .1 .form) (q .form)) (λ work left done. refl) (q .runs) (p .1)) te
+      (λ left. ap (λ l. op BOOLOR ∷ l) (q .reads (treeRead a left) ∙ ap (treeRead (q .x)) (p .3 left))) (join-kept orB a b (p .0) (q .x) (p .4) (q .kept))
 
   or-d-par : (a b : Tree) (c d r : Correctness) → combinationRule orD c d ≡ Is r → Solo a c → Canon b d → Parsed (join orD a b) r
   or-d-par a b c d r f p q =
       let te = join-typed orD (p .0) (q .x) c d r (p .2) (q .typed) f in
       alone (join orD a b) (join orD (p .0) (q .x)) r
-      (plain _ r (op ENDIF) (λ left. treeRead (q .x) (op NOTIF ∷ op IFDUP ∷ treeRead (p .0) left)) te (λ left. refl) (λ left. refl, refl, refl, λ k n. refl) refl refl (rw (p .1 .nested, q .nested))
+      (plain _ r (op ENDIF) (λ left. treeRead (q .x) (op NOTIF ∷ op IFDUP ∷ treeRead (p .0) left)) te (λ left. refl) (λ left. refl, refl, refl, λ k n. refl) refl refl (join-form orD (p .0) (q .x) (p .1 .single) refl (p .1 .form) (q .form))
       (λ work left done. later (q .runs (EndIf ∷ work) (op NOTIF ∷ op IFDUP ∷ treeRead (p .0) left) done refl) ⨾ later (later (p .1 .runs (OrD ∷ work) left (q .x ⊳ done))) ⨾ later (made (join orD (p .0) (q .x)) (join-passes orD (p .0) (q .x) r te) at-once))) te
-      (λ left. ap (λ l. op ENDIF ∷ l) (q .reads (op NOTIF ∷ op IFDUP ∷ treeRead a left) ∙ ap (λ l. treeRead (q .x) (op NOTIF ∷ op IFDUP ∷ l)) (p .3 left)))
+      (λ left. ap (λ l. op ENDIF ∷ l) (q .reads (op NOTIF ∷ op IFDUP ∷ treeRead a left) ∙ ap (λ l. treeRead (q .x) (op NOTIF ∷ op IFDUP ∷ l)) (p .3 left))) (join-kept orD a b (p .0) (q .x) (p .4) (q .kept))
 
   or-c-par : (a b : Tree) (c d r : Correctness) → combinationRule orC c d ≡ Is r → Solo a c → Canon b d → Parsed (join orC a b) r
   or-c-par a b c d r f p q =
@@ -566,17 +593,17 @@ module _ (segwit : Bool) where
       let back : (work : List NonTerm) (left : List Lexeme) (done : Trees) → Reach (goesOn (EndIfNotIf ∷ work) (treeRead (p .0) left) done) (goesOn (OrC ∷ work) left (p .0 ⊳ done)) =
       λ work left done. later (rw (p .1 .ends left, p .1 .fine .2) (rw (p .1 .ends left) at (p .1 .runs (OrC ∷ work) left done))) in
       alone (join orC a b) (join orC (p .0) (q .x)) r
-      (plain _ r (op ENDIF) (λ left. treeRead (q .x) (op NOTIF ∷ treeRead (p .0) left)) te (λ left. refl) (λ left. refl, refl, refl, λ k n. refl) refl refl (rw (p .1 .nested, q .nested))
+      (plain _ r (op ENDIF) (λ left. treeRead (q .x) (op NOTIF ∷ treeRead (p .0) left)) te (λ left. refl) (λ left. refl, refl, refl, λ k n. refl) refl refl (join-form orC (p .0) (q .x) (p .1 .single) refl (p .1 .form) (q .form))
       (λ work left done. later (q .runs (EndIf ∷ work) (op NOTIF ∷ treeRead (p .0) left) done refl) ⨾ later (back work left (q .x ⊳ done)) ⨾ later (made (join orC (p .0) (q .x)) (join-passes orC (p .0) (q .x) r te) at-once))) te
-      (λ left. ap (λ l. op ENDIF ∷ l) (q .reads (op NOTIF ∷ treeRead a left) ∙ ap (λ l. treeRead (q .x) (op NOTIF ∷ l)) (p .3 left)))
+      (λ left. ap (λ l. op ENDIF ∷ l) (q .reads (op NOTIF ∷ treeRead a left) ∙ ap (λ l. treeRead (q .x) (op NOTIF ∷ l)) (p .3 left))) (join-kept orC a b (p .0) (q .x) (p .4) (q .kept))
 
   or-i-par : (a b : Tree) (c d r : Correctness) → combinationRule orI c d ≡ Is r → Canon a c → Canon b d → Parsed (join orI a b) r
   or-i-par a b c d r f p q =
       let te = join-typed orI (p .x) (q .x) c d r (p .typed) (q .typed) f in
       alone (join orI a b) (join orI (p .x) (q .x)) r
-      (plain _ r (op ENDIF) (λ left. treeRead (q .x) (op ELSE ∷ treeRead (p .x) (op IF ∷ left))) te (λ left. refl) (λ left. refl, refl, refl, λ k n. refl) refl refl (rw (p .nested, q .nested))
+      (plain _ r (op ENDIF) (λ left. treeRead (q .x) (op ELSE ∷ treeRead (p .x) (op IF ∷ left))) te (λ left. refl) (λ left. refl, refl, refl, λ k n. refl) refl refl (join-form orI (p .x) (q .x) refl refl (p .form) (q .form))
       (λ work left done. later (q .runs (EndIf ∷ work) (op ELSE ∷ treeRead (p .x) (op IF ∷ left)) done refl) ⨾ later (p .runs (EndIfElse ∷ work) (op IF ∷ left) (q .x ⊳ done) refl) ⨾ later (made (join orI (p .x) (q .x)) (join-passes orI (p .x) (q .x) r te) at-once))) te
-      (λ left. ap (λ l. op ENDIF ∷ l) (q .reads (op ELSE ∷ treeRead a (op IF ∷ left)) ∙ ap (λ l. treeRead (q .x) (op ELSE ∷ l)) (p .reads (op IF ∷ left))))
+      (λ left. ap (λ l. op ENDIF ∷ l) (q .reads (op ELSE ∷ treeRead a (op IF ∷ left)) ∙ ap (λ l. treeRead (q .x) (op ELSE ∷ l)) (p .reads (op IF ∷ left)))) (join-kept orI a b (p .x) (q .x) (p .kept) (q .kept))
 
   two-par : (k : Combination) (a b : Tree) (c d r : Correctness) → combinationRule k c d ≡ Is r → Parsed a c → ParB (takesW k) b d → Parsed (join k a b) r
   two-par andV a b c d r f p q = and-v-par a b c d r f p q
@@ -591,10 +618,11 @@ module _ (segwit : Bool) where
       let te : typeOf segwit (andOr (p .0) (q .x) (s .x)) ≡ Is r = rw (p .2, q .typed, s .typed) f in
       let ok : judge segwit (andOr (p .0) (q .x) (s .x)) ≡ passes = rw te in
       alone (andOr x y z) (andOr (p .0) (q .x) (s .x)) r
-      (plain _ r (op ENDIF) (λ left. treeRead (q .x) (op ELSE ∷ treeRead (s .x) (op NOTIF ∷ treeRead (p .0) left))) te (λ left. refl) (λ left. refl, refl, refl, λ k n. refl) refl refl (rw (p .1 .nested, q .nested, s .nested))
+      (plain _ r (op ENDIF) (λ left. treeRead (q .x) (op ELSE ∷ treeRead (s .x) (op NOTIF ∷ treeRead (p .0) left))) te (λ left. refl) (λ left. refl, refl, refl, λ k n. refl) refl refl (and-or-form (p .0) (q .x) (s .x) (p .1 .single) (p .1 .form) (q .form) (s .form))
       (λ work left done. later (q .runs (EndIf ∷ work) (op ELSE ∷ treeRead (s .x) (op NOTIF ∷ treeRead (p .0) left)) done refl) ⨾ later (s .runs (EndIfElse ∷ work) (op NOTIF ∷ treeRead (p .0) left) (q .x ⊳ done) refl)
       ⨾ later (p .1 .runs (Tern ∷ work) left (s .x ⊳ (q .x ⊳ done))) ⨾ later (made (andOr (p .0) (q .x) (s .x)) ok at-once))) te
       (λ left. ap (λ l. op ENDIF ∷ l) (q .reads (op ELSE ∷ treeRead z (op NOTIF ∷ treeRead x left)) ∙ ap (λ l. treeRead (q .x) (op ELSE ∷ l)) (s .reads (op NOTIF ∷ treeRead x left) ∙ ap (λ l. treeRead (s .x) (op NOTIF ∷ l)) (p .3 left))))
+      (λ f. let h = and-or-form-parts x y z f in let e = p .4 (h .0) in let g = q .kept (h .1) in let i = s .kept (h .2) in rw (e, g, i))
 
   -- thresh: the further children, as they are read
 
@@ -611,8 +639,9 @@ module _ (segwit : Bool) where
     typed : typesOf segwit ys ≡ all cs
     count : many ys ≡ many xs
     runs : (k n : ℕ) (work : List NonTerm) (left : List Lexeme) (done : Trees) → Reach (goesOn (ThreshW k n ∷ work) (addedTreesRead ys left) done) (goesOn (ThreshW k (counted ys n) ∷ work) left (_⊕_ ys done))
-    nested : allLeftNested ys ≡ true
+    form : allRowForm ys ≡ true
     reads : (left : List Lexeme) → addedTreesRead xs left ≡ addedTreesRead ys left
+    kept : allRowForm xs ≡ true → ys ≡ xs
 
   -- what is known of the children of a thresh, one by one
   abbrev ParAll : Trees → List Correctness → Type 0
@@ -639,12 +668,13 @@ module _ (segwit : Bool) where
     typed = rw (p .typed, q .typed);
     count = ap suc (q .count);
     runs = λ k n work left done. q .runs k n work (op ADD ∷ treeRead (p .x) left) done ⨾ later (p .runs (ThreshW k (suc (counted (q .ys) n)) ∷ work) left (_⊕_ (q .ys) done));
-    nested = rw (p .nested, q .nested);
+    form = all-form (p .x) (q .ys) (p .form) (q .form);
     reads = λ left. q .reads (op ADD ∷ treeRead x left) ∙ ap (λ l. addedTreesRead (q .ys) (op ADD ∷ l)) (p .reads left);
+    kept = λ f. let h = all-form-parts x xs f in let e = p .kept (h .0) in let g = q .kept (h .1) in rw (e, g);
   }
 
   others : (xs : Trees) (cs : List Correctness) → ParAll xs cs → AllW cs → Others xs cs
-  others nil [] p w = record { ys = nil; typed = refl; count = refl; runs = λ k n work left done. at-once; nested = refl; reads = λ left. refl }
+  others nil [] p w = record { ys = nil; typed = refl; count = refl; runs = λ k n work left done. at-once; form = refl; reads = λ left. refl; kept = λ f. refl }
   others nil (c ∷ cs) p w = absurd p
   others (x ⊳ xs) [] p w = absurd p
   others (x ⊳ xs) (c ∷ cs) p w = others-cons x xs c cs (w-of (isW (c .base)) x c (w .0) (p .0)) (others xs cs (p .1) (w .1))
@@ -674,9 +704,10 @@ module _ (segwit : Bool) where
         runs = λ work left done. later (thresh-run k (p .0) xs cs (p .1) q ok work left done);
         verified = λ work left done. later (thresh-run k (p .0) xs cs (p .1) q ok (Verify ∷ work) left done);
         single = refl;
-        nested = rw (p .1 .nested, q .nested);
+        form = thresh-form k (p .0) (q .ys) (p .1 .single) (p .1 .form) (q .form);
       }) te
       (λ left. ap (λ l. op EQUAL ∷ num k ∷ l) (q .reads (treeRead x left) ∙ ap (addedTreesRead (q .ys)) (p .3 left)))
+      (λ f. let h = thresh-form-parts k x xs f in let e = p .4 (h .0) in let g = q .kept (h .1) in rw (e, g))
 
   -- From what is known of the parts to what is known of the whole
 
@@ -752,13 +783,18 @@ module _ (segwit : Bool) where
     parses nil g = tt
     parses (x ⊳ xs) g = all-any x xs (typeOf segwit x) (typesOf segwit xs) (parse x (and-left (allowed segwit x) (allAllowed segwit xs) g)) (parses xs (and-right (allowed segwit x) (allAllowed segwit xs) g))
 
-  -- The tokens of an allowed tree with a type that is no W are read, to a left-nested tree of the same type
-  pub complete : (t : Tree) (c : Correctness) → allowed segwit t ≡ true → typeOf segwit t ≡ Is c → isW (c .base) ≡ false
-      → (u : Tree) × (typeOf segwit u ≡ Is c) × (leftNested u ≡ true) × runs.Reach segwit (begin (reverseAux (written t) [])) (goesOn [] [] (u ⊳ nil))
+  -- The tokens of an allowed tree with a type that is no W are read, to a tree of the same type that has the rows' form; to the very tree, if it has that form
+  pub complete-form : (t : Tree) (c : Correctness) → allowed segwit t ≡ true → typeOf segwit t ≡ Is c → isW (c .base) ≡ false
+      → (u : Tree) × (typeOf segwit u ≡ Is c) × (rowForm u ≡ true) × (rowForm t ≡ true → u ≡ t) × runs.Reach segwit (begin (reverseAux (written t) [])) (goesOn [] [] (u ⊳ nil))
   unfolding begin written
-  complete t c g e w =
+  complete-form t c g e w =
       let p0 : Par t (Is c) = rw e at (parse t g) in
       let p : Parsed t c = no-w-of (isW (c .base)) t c w p0 in
       let k : Canon t c = canon t c p in
       let reads : reverseAux (written t) [] ≡ treeRead (k .x) [] = tree-reversed t [] [] ∙ k .reads [] in
-      (k .x, k .typed, k .nested, rw reads (k .runs [] [] nil refl))
+      (k .x, k .typed, k .form, k .kept, rw reads (k .runs [] [] nil refl))
+
+  -- so its and_v chains are nested to the left
+  pub complete : (t : Tree) (c : Correctness) → allowed segwit t ≡ true → typeOf segwit t ≡ Is c → isW (c .base) ≡ false
+      → (u : Tree) × (typeOf segwit u ≡ Is c) × (leftNested u ≡ true) × runs.Reach segwit (begin (reverseAux (written t) [])) (goesOn [] [] (u ⊳ nil))
+  complete t c g e w = let k = complete-form t c g e w in (k .0, k .1, and-left (leftNested (k .0)) (floatedOut (k .0)) (k .2), k .4)

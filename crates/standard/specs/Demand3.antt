@@ -1,6 +1,6 @@
 -- The theorems of reading, over the bytes of a script and the whole outcome of the reader.
 -- Exactly: with ample tables a script is accepted exactly when its kind is 0 or 1, it lexes, and some tree of base B, well typed and allowed, is written with its tokens, compared by code, number and pushed bytes (`accepted-exactly`).
--- Written: whatever the tables, what is handed out is such a tree, written with exactly those tokens, in tables that hold it (`accepted-is-handed-out`), and it can be read back off them (`handed-out-reads-back`). Its and_v chains are nested to the left (`handed-out-chains`), and every other such tree has its type (`handed-out-type`).
+-- Written: whatever the tables, what is handed out is such a tree, written with exactly those tokens, in tables that hold it (`accepted-is-handed-out`), and it can be read back off them (`handed-out-reads-back`). It has the form that the rows build (`handed-out-row-form`), so its and_v chains are nested to the left (`handed-out-chains`). Every other such tree has its type (`handed-out-type`), and is the same tree exactly where it has that form (`handed-out-same-tree`).
 -- Room: with 01's ample sizes, or those by tokens, 8, 15, 16 and 17 are never given (`ample-never-refuses`). Steps: at most eight a token and two (`steps-by-tokens`). A refusal leaves zeros (`refusal-clears`).
 -- One outcome: whatever the tables, an accepted script has the same tokens and tree (`one-tokens`, `one-tree-whatever-the-tables`).
 -- One tree: two accepted scripts of one kind with the same tree have the same tokens, whatever their places (`same-tree-same-tokens`).
@@ -22,6 +22,7 @@ use Rattle.tables.specs.Choose.{pick}
 use Rattle.tables.specs.Tables.{zeros}
 use Rattle.standard.specs.Tree.{Tree, nil, _⊳_, SameTree, leftNested}
 use Rattle.standard.specs.Written.{written}
+use Rattle.standard.specs.RowForm.{rowForm}
 use Rattle.standard.specs.Allowed.{within, allowed}
 use Rattle.standard.specs.Types.{typeOf, WellTypedB}
 use Rattle.standard.specs.Table.{nodeTable, keyTable, treeOf, TreeOf}
@@ -33,7 +34,7 @@ use Rattle.standard.specs.Reads.{WrittenWith, Accepts, accepted-is-writt
 use Rattle.standard.specs.Reads as reads
 use Rattle.standard.specs.RuleLaws.{and-left, and-right}
 use Rattle.standard.specs.TableLaws.{read-back}
-use Rattle.standard.specs.PlaceLaws.{bares, bare-type, bare-allowed, replaced, same-tree-same-lexemes}
+use Rattle.standard.specs.PlaceLaws.{bares, same-tree-same-lexemes}
 use Rattle.standard.specs.ScriptLaws.{lexing-numbers, pushes-at-most-bytes, tree-of-script}
 
 -- What is ample: document 01's "2b tokens, 4b nodes, b keys, 16b + 2 work entries", for b bytes
@@ -139,22 +140,26 @@ module _ (kind : ℕ) (script : List ℕ) (lengths : Lengths) where
 
   -- a tree that is written with the tokens, whatever their places, gives one that is written with the very lexemes
   replaced-tree : (tokens : List Token) (t : Tree) → WrittenWithTokens segwit script tokens t → (u : Tree) × WrittenWith segwit (lexemesOf tokens) u × (typeOf segwit u ≡ typeOf segwit t)
-  replaced-tree tokens t w =
-      let u = replaced t (lexemesOf tokens) (w .0) in
-      let ty : typeOf segwit (u .0) ≡ typeOf segwit t = sym (bare-type segwit (u .0)) ∙ ap (typeOf segwit) (u .2) ∙ bare-type segwit t in
-      let al : allowed segwit (u .0) ≡ allowed segwit t = sym (bare-allowed segwit (u .0)) ∙ ap (allowed segwit) (u .2) ∙ bare-allowed segwit t in
-      (u .0, (u .1, (al ∙ w .1 .0, (w .1 .1 .0, ty ∙ w .1 .1 .1, w .1 .1 .2))), ty)
+  replaced-tree tokens t w = let u = reads.written-elsewhere segwit (lexemesOf tokens) t (w .0) (w .1 .0) (w .1 .1) in (u .0, u .1, u .2)
 
   accepts : (h : HandedOut kind script lengths) → Accepts segwit (limitsOf lengths) (lexemesOf (h .tokens)) (h .tree)
   accepts h = ap (λ (r : Run). r .verdict) (h .reads)
 
-  -- its and_v chains are nested to the left
+  -- it has the form that the rows build
+  pub handed-out-row-form : (h : HandedOut kind script lengths) → rowForm (h .tree) ≡ true
+  handed-out-row-form h = reads.accepted-has-row-form segwit (limitsOf lengths) (lexemesOf (h .tokens)) (h .tree) (accepts h)
+
+  -- so its and_v chains are nested to the left
   pub handed-out-chains : (h : HandedOut kind script lengths) → leftNested (h .tree) ≡ true
   handed-out-chains h = reads.chains-left segwit (limitsOf lengths) (lexemesOf (h .tokens)) (h .tree) (accepts h)
 
   -- and its type is that of every other tree of base B, well typed and allowed, that is written with the tokens
   pub handed-out-type : (h : HandedOut kind script lengths) (t : Tree) → WrittenWithTokens segwit script (h .tokens) t → typeOf segwit (h .tree) ≡ typeOf segwit t
   handed-out-type h t w = let u = replaced-tree (h .tokens) t w in reads.one-type segwit (limitsOf lengths) (lexemesOf (h .tokens)) (h .tree) (u .0) (accepts h) (u .1) ∙ u .2
+
+  -- it is the same tree exactly where that other one has the form that the rows build
+  pub handed-out-same-tree : (h : HandedOut kind script lengths) (t : Tree) → WrittenWithTokens segwit script (h .tokens) t → SameTree (h .tree) t ↔ (rowForm t ≡ true)
+  handed-out-same-tree h t w = reads.same-tree-exactly segwit (limitsOf lengths) (lexemesOf (h .tokens)) (h .tree) t (accepts h) (w .0) (w .1 .0) (w .1 .1)
 
   -- sizes that are ample by bytes are ample for the tokens
   ample-of : AmpleLengths (length script) lengths → (room : ℕ) (tokens : List Token) → lexOf room script ≡ lex.tokens tokens → Ample (limitsOf lengths) (length (lexemesOf tokens)) (pushes (lexemesOf tokens))

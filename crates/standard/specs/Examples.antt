@@ -1,5 +1,6 @@
--- Worked examples, computed on the definitions: document 01, "Scripts to try at the counter", the twelve before the bar as one table; a script that would need unit under d:; and a refusal by each small table.
+-- Worked examples, computed on the definitions: document 01, "Scripts to try at the counter", the twelve before the bar as one table; a script that would need unit under d:; a refusal by each small table; and the form that the rows build.
 use mathlib.Core.Path.{_≡_, refl}
+use mathlib.Core.Bool.{true, false}
 use mathlib.Core.List.{List, [], _∷_, _++_, map}
 use Prim.Native.Nat.{ℕ, zero, suc, _+_, _*_}
 use lib.ListN.{length, getD, drop, replicate}
@@ -11,11 +12,12 @@ use Rattle.instruction.specs.Push.{small, pushed, hasOpcode, pushOf, sizedOf}
 use Rattle.instruction.specs.Instruction.{verifyRefused, instructionOf}
 use Rattle.lex.specs.Script.{scriptLimit, lexOf}
 use Rattle.tables.specs.Tables.{zeros}
-use Rattle.standard.specs.Tree.{True, False, leaf}
+use Rattle.standard.specs.Tree.{Tree, True, False, leaf, wrap, join}
 use Rattle.standard.specs.Tree as tree-of
 use Rattle.standard.specs.Written.{written}
-use Rattle.standard.specs.Machine.{decode}
-use Rattle.standard.specs.Outcome.{Lengths, Outcome, outcomeOf, ampleFor}
+use Rattle.standard.specs.RowForm.{rowForm}
+use Rattle.standard.specs.Machine.{accepted, decode}
+use Rattle.standard.specs.Outcome.{Lengths, Outcome, limitsOf, outcomeOf, ampleFor}
 
 -- what is told of a script: the answer's seven numbers, and each node's kind and type (base, input, d, u as four digits)
 pub record Told : Type 0 where
@@ -246,3 +248,25 @@ thresh-node = refl
 pub and-or-written : written (tree-of.andOr (leaf False) (leaf True) (leaf False)) ≡ num 0 ∷ op NOTIF ∷ num 0 ∷ op ELSE ∷ num 1 ∷ op ENDIF ∷ []
 unfolding written
 and-or-written = refl
+
+-- and_v(v:1,X)
+abbrev afterOne : Tree → Tree
+afterOne x = join tree-of.andV (wrap tree-of.verify (leaf True)) x
+
+-- n:and_v(v:1,1) has not the form that the rows build: its lexemes are read as and_v(v:1,n:1), which has it
+pub under-n : rowForm (wrap tree-of.zeroNotEqual (afterOne (leaf True))) ≡ false
+under-n = refl
+
+pub floated-out-of-n : rowForm (afterOne (wrap tree-of.zeroNotEqual (leaf True))) ≡ true
+floated-out-of-n = refl
+
+pub floats-out-of-n : decode true (limitsOf (ampleFor 4)) (written (wrap tree-of.zeroNotEqual (afterOne (leaf True)))) .verdict ≡ accepted (afterOne (wrap tree-of.zeroNotEqual (leaf True)))
+unfolding written decode castAlt castSwap castCheck castDupif castVerify castNonzero castZeronotequal andB andV orB orD orC orI andOr thresholdChild threshold
+floats-out-of-n = refl
+
+-- and_v(v:1,and_v(v:1,1)) has it neither; or_i(and_v(v:1,1),0) has it, since IF stands before the and_v
+pub nested-to-the-right : rowForm (afterOne (afterOne (leaf True))) ≡ false
+nested-to-the-right = refl
+
+pub under-or-i : rowForm (join tree-of.orI (afterOne (leaf True)) (leaf False)) ≡ true
+under-or-i = refl

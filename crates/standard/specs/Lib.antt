@@ -8,8 +8,9 @@ pub mod Table
 pub mod Rows
 pub mod Machine
 pub mod Outcome
+pub mod RowForm
 pub mod Examples
--- Theorems: the reader's outcome over bytes, reading lexemes, types, tables, written form, places
+-- Theorems: the reader's outcome over bytes, reading lexemes, types, tables, written form, places, counts, the form that the rows build
 pub mod Demand3
 pub mod Reads
 pub mod TypesAgree
@@ -17,6 +18,7 @@ pub mod TableLaws
 pub mod WrittenLaws
 pub mod PlaceLaws
 pub mod CountLaws
+pub mod FormLaws
 -- What their proofs stand on: the laws of the rules, runs without limits, and the invariants of a run
 pub mod RuleLaws
 pub mod Runs
@@ -25,3 +27,5 @@ pub mod Complete
 pub mod Bound
 pub mod Carried
 pub mod ScriptLaws
+-- Theorems: what is read in tables of the sizes that `room` answers
+pub mod RoomLaws

@@ -25,6 +25,7 @@ use Rattle.correctness.specs.Rules.{check, is, given, onward, castAlt, castSwap
 use Rattle.tables.specs.Choose.{pick}
 use Rattle.standard.specs.Tree as tree
 use Rattle.standard.specs.Tree.{Wrapper, Combination, Leaf}
+use Rattle.standard.specs.RowForm.{floats}
 use Rattle.standard.specs.Types.{wrapperRule, combinationRule, typedLeaf}
 
 -- tests and answers taken apart
@@ -265,15 +266,6 @@ and-v-associative a v x y r e f = commuted (andV a v) (andV v x) (λ w. andV w x
 -- 5. What an and_v floats out of, with the same type: laws of `correctness`
 
 -- c:, v: and n:
-abbrev pub floats : Wrapper → Bool
-floats tree.alt = false
-floats tree.swap = false
-floats tree.check = true
-floats tree.dupIf = false
-floats tree.verify = true
-floats tree.nonZero = false
-floats tree.zeroNotEqual = true
-
 pub wrapper-floats : (segwit : Bool) (w : Wrapper) → floats w ≡ true → (v x y r : Correctness) → andV v x ≡ Is y → wrapperRule segwit w y ≡ Is r
     → (z : Correctness) × (wrapperRule segwit w x ≡ Is z) × (andV v z ≡ Is r)
 wrapper-floats segwit tree.alt n v x y r e f = absurd (true≢false (sym n))

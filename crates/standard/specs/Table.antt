@@ -3,14 +3,13 @@ use mathlib.Core.Path.{_≡_}
 use mathlib.Core.Bool.{Bool, true, false}
 use mathlib.Core.List.{List, [], _∷_, _++_}
 use mathlib.Core.Option.{Option, none, some}
-use Prim.Native.Nat.{ℕ, zero, suc, _+_}
-use lib.Dec.{eqb}
-use lib.ListN.{length, take, drop}
+use Prim.Native.Nat.{ℕ, zero, suc, _+_, _*_}
+use lib.ListN.{length, getD, take, drop}
 use Rattle.correctness.specs.declared.Typed.{Typed}
 use Rattle.correctness.specs.declared.Typed.the-variants.{Is, Not}
 use Rattle.base_input.specs.Numbers.{baseNumber, inputNumber, boolNumber}
 use Rattle.lex.specs.Token.{Data, dataAt, dataLength, HASH20, BYTES32, BYTES33}
-use Rattle.tables.specs.Choose.{pick}
+use Rattle.tables.specs.Choose.{look}
 use Rattle.standard.specs.Tree.{Key, key, Hash, sha256, hash256, ripemd160, hash160, Leaf, True, False, PkK, RawPkH, After, Older, HashLock, Multi, MultiA, Wrapper, alt, swap, check, dupIf, verify, nonZero, zeroNotEqual, Combination, andV, andB, orB, orD, orC, orI, Tree, Trees, leaf, wrap, join, andOr, thresh, nil, _⊳_, many, size, keyCount, keyCounts}
 use Rattle.standard.specs.Written.{hashPush}
 use Rattle.standard.specs.Types.{typeOf}
@@ -33,6 +32,21 @@ nodeCells = 9
 
 abbrev pub cells : Node → List ℕ
 cells n = n .kind ∷ n .number ∷ n .count ∷ n .place ∷ n .size ∷ n .base ∷ n .input ∷ n .d ∷ n .u ∷ []
+
+-- node number i of a table
+abbrev pub nodeAt : List ℕ → ℕ → Node
+nodeAt table i =
+    record {
+      kind = getD table (nodeCells * i) 0;
+      number = getD table (nodeCells * i + 1) 0;
+      count = getD table (nodeCells * i + 2) 0;
+      place = getD table (nodeCells * i + 3) 0;
+      size = getD table (nodeCells * i + 4) 0;
+      base = getD table (nodeCells * i + 5) 0;
+      input = getD table (nodeCells * i + 6) 0;
+      d = getD table (nodeCells * i + 7) 0;
+      u = getD table (nodeCells * i + 8) 0;
+    }
 
 -- the fields of a type; a finished tree always has one
 abbrev pub baseField : Typed → ℕ
@@ -96,6 +110,55 @@ andOrKind = 21
 
 abbrev pub threshKind : ℕ
 threshKind = 26
+
+-- what a number stands for: a `Terminal` without what it holds
+pub data Terminal : Type 0 where
+  noTerminal isTrue isFalse isPkK isRawPkH isAfter isOlder : Terminal
+  isHash : Hash → Terminal
+  isWrapper : Wrapper → Terminal
+  isCombination : Combination → Terminal
+  isAndOr isThresh isMulti isMultiA : Terminal
+
+abbrev pub terminals : List (ℕ × Terminal)
+terminals =
+    (1, isTrue) ∷
+    (2, isFalse) ∷
+    (3, isPkK) ∷
+    (5, isRawPkH) ∷
+    (6, isAfter) ∷
+    (7, isOlder) ∷
+    (8, isHash sha256) ∷
+    (9, isHash hash256) ∷
+    (10, isHash ripemd160) ∷
+    (11, isHash hash160) ∷
+    (12, isWrapper alt) ∷
+    (13, isWrapper swap) ∷
+    (14, isWrapper check) ∷
+    (15, isWrapper dupIf) ∷
+    (16, isWrapper verify) ∷
+    (17, isWrapper nonZero) ∷
+    (18, isWrapper zeroNotEqual) ∷
+    (19, isCombination andV) ∷
+    (20, isCombination andB) ∷
+    (21, isAndOr) ∷
+    (22, isCombination orB) ∷
+    (23, isCombination orD) ∷
+    (24, isCombination orC) ∷
+    (25, isCombination orI) ∷
+    (26, isThresh) ∷
+    (27, isMulti) ∷
+    (28, isMultiA) ∷
+    []
+
+unfoldable pub terminalOf : ℕ → Terminal
+terminalOf kind = look kind terminals noTerminal
+
+-- how many bytes a hash lock's hash has
+abbrev pub hashLength : Hash → ℕ
+hashLength sha256 = 32
+hashLength hash256 = 32
+hashLength ripemd160 = 20
+hashLength hash160 = 20
 
 -- The key table
 
@@ -224,37 +287,25 @@ threshTop k n nil = none
 threshTop k zero (x ⊳ ts) = none
 threshTop k (suc n) (x ⊳ ts) = takeTrees n ts none (λ xs rest. some (thresh k x xs ⊳ rest))
 
--- one node more
-unfoldable pub addNode : Bool → List ℕ → List ℕ → Node → Trees → Option Trees
-addNode segwit script keys n ts =
-    pick (eqb (n .kind) 1) (some (leaf True ⊳ ts))
-    (pick (eqb (n .kind) 2) (some (leaf False ⊳ ts))
-    (pick (eqb (n .kind) 3) (some (leaf (PkK (key (keyCode segwit) (dataAt script (n .place) (keyLength segwit)))) ⊳ ts))
-    (pick (eqb (n .kind) 5) (some (leaf (RawPkH (dataAt script (n .place) 20)) ⊳ ts))
-    (pick (eqb (n .kind) 6) (some (leaf (After (n .number)) ⊳ ts))
-    (pick (eqb (n .kind) 7) (some (leaf (Older (n .number)) ⊳ ts))
-    (pick (eqb (n .kind) 8) (some (leaf (HashLock sha256 (dataAt script (n .place) 32)) ⊳ ts))
-    (pick (eqb (n .kind) 9) (some (leaf (HashLock hash256 (dataAt script (n .place) 32)) ⊳ ts))
-    (pick (eqb (n .kind) 10) (some (leaf (HashLock ripemd160 (dataAt script (n .place) 20)) ⊳ ts))
-    (pick (eqb (n .kind) 11) (some (leaf (HashLock hash160 (dataAt script (n .place) 20)) ⊳ ts))
-    (pick (eqb (n .kind) 12) (wrapTop alt ts)
-    (pick (eqb (n .kind) 13) (wrapTop swap ts)
-    (pick (eqb (n .kind) 14) (wrapTop check ts)
-    (pick (eqb (n .kind) 15) (wrapTop dupIf ts)
-    (pick (eqb (n .kind) 16) (wrapTop verify ts)
-    (pick (eqb (n .kind) 17) (wrapTop nonZero ts)
-    (pick (eqb (n .kind) 18) (wrapTop zeroNotEqual ts)
-    (pick (eqb (n .kind) 19) (joinTop andV ts)
-    (pick (eqb (n .kind) 20) (joinTop andB ts)
-    (pick (eqb (n .kind) 21) (andOrTop ts)
-    (pick (eqb (n .kind) 22) (joinTop orB ts)
-    (pick (eqb (n .kind) 23) (joinTop orD ts)
-    (pick (eqb (n .kind) 24) (joinTop orC ts)
-    (pick (eqb (n .kind) 25) (joinTop orI ts)
-    (pick (eqb (n .kind) 26) (threshTop (n .number) (n .count) ts)
-    (pick (eqb (n .kind) 27) (some (leaf (Multi (n .number) (keysAt script (take (n .count) (drop (n .place) keys)))) ⊳ ts))
-    (pick (eqb (n .kind) 28) (multiAOf (n .number) (datasAt script (take (n .count) (drop (n .place) keys))) ts)
-    none))))))))))))))))))))))))))
+-- one node more, by what its kind stands for
+abbrev pub addTerminal : Bool → List ℕ → List ℕ → Terminal → Node → Trees → Option Trees
+addTerminal segwit script keys noTerminal n ts = none
+addTerminal segwit script keys isTrue n ts = some (leaf True ⊳ ts)
+addTerminal segwit script keys isFalse n ts = some (leaf False ⊳ ts)
+addTerminal segwit script keys isPkK n ts = some (leaf (PkK (key (keyCode segwit) (dataAt script (n .place) (keyLength segwit)))) ⊳ ts)
+addTerminal segwit script keys isRawPkH n ts = some (leaf (RawPkH (dataAt script (n .place) 20)) ⊳ ts)
+addTerminal segwit script keys isAfter n ts = some (leaf (After (n .number)) ⊳ ts)
+addTerminal segwit script keys isOlder n ts = some (leaf (Older (n .number)) ⊳ ts)
+addTerminal segwit script keys (isHash h) n ts = some (leaf (HashLock h (dataAt script (n .place) (hashLength h))) ⊳ ts)
+addTerminal segwit script keys (isWrapper w) n ts = wrapTop w ts
+addTerminal segwit script keys (isCombination c) n ts = joinTop c ts
+addTerminal segwit script keys isAndOr n ts = andOrTop ts
+addTerminal segwit script keys isThresh n ts = threshTop (n .number) (n .count) ts
+addTerminal segwit script keys isMulti n ts = some (leaf (Multi (n .number) (keysAt script (take (n .count) (drop (n .place) keys)))) ⊳ ts)
+addTerminal segwit script keys isMultiA n ts = multiAOf (n .number) (datasAt script (take (n .count) (drop (n .place) keys))) ts
+
+abbrev pub addNode : Bool → List ℕ → List ℕ → Node → Trees → Option Trees
+addNode segwit script keys n ts = addTerminal segwit script keys (terminalOf (n .kind)) n ts
 
 abbrev pub goingOn : Option Trees → (Trees → Option Trees) → Option Trees
 goingOn none f = none

@@ -15,17 +15,17 @@ use Rattle.lex.specs.Token.{Data, dataAt, dataLength, BYTES32, BYTES33}
 use Rattle.standard.specs.Tree.{Key, key, sha256, hash256, ripemd160, hash160, Leaf, True, False, PkK, RawPkH, After, Older, HashLock, Multi, MultiA, Wrapper, alt, swap, check, dupIf, verify, nonZero, zeroNotEqual, Combination, andV, andB, orB, orD, orC, orI, Tree, Trees, leaf, wrap, join, andOr, thresh, nil, _⊳_, _⊕_, many, size, sizes, leafKeys, keyCount, keyCounts}
 use Rattle.standard.specs.Allowed.{keyForm, multiKey, allMultiKeys, multiCount, within, allowedLeaf, threshAllowed, allowed, allAllowed}
 use Rattle.standard.specs.Types.{typeOf}
-use Rattle.standard.specs.Table.{Node, nodeCells, cells, node, keyPlaces, dataPlaces, leafOffsets, keysOf, keyTable, wrapperKind, combinationKind, andOrKind, threshKind, leafNode, rootNode, nodesOf, nodesFrom, nodeTable, keyCode, keyLength, keysAt, datasAt, multiAOf, addNode, treesOf, theTree, treeOf, DataOf, KeysOf, DatasOf, LeafOf, TreeOf, TreesOf}
+use Rattle.standard.specs.Table.{Node, nodeCells, cells, node, keyPlaces, dataPlaces, leafOffsets, keysOf, keyTable, wrapperKind, combinationKind, andOrKind, threshKind, leafNode, rootNode, nodesOf, nodesFrom, nodeTable, keyCode, keyLength, keysAt, datasAt, multiAOf, terminalOf, addNode, treesOf, theTree, treeOf, DataOf, KeysOf, DatasOf, LeafOf, TreeOf, TreesOf}
 use Rattle.standard.specs.Sound.{take-all}
 use Rattle.standard.specs.RuleLaws.{and-left, and-right}
 
 -- How many entries
 
-places-length : (ks : List Key) → length (keyPlaces ks) ≡ length ks
+pub places-length : (ks : List Key) → length (keyPlaces ks) ≡ length ks
 places-length [] = refl
 places-length (k ∷ ks) = ap suc (places-length ks)
 
-data-length : (ds : List Data) → length (dataPlaces ds) ≡ length ds
+pub data-length : (ds : List Data) → length (dataPlaces ds) ≡ length ds
 data-length [] = refl
 data-length (d ∷ ds) = ap suc (data-length ds)
 
@@ -139,8 +139,8 @@ module _ (segwit : Bool) where
 
   -- the tree of one node, put on a stack
   module _ (script : List ℕ) (keys : List ℕ) where
-    wrap-added : (w : Wrapper) (size : ℕ) (o : Typed) (x : Tree) (ts : Trees) → addNode segwit script keys (node (wrapperKind w) 0 0 0 size o) (x ⊳ ts) ≡ some (wrap w x ⊳ ts)
-    unfolding addNode
+    pub wrap-added : (w : Wrapper) (size : ℕ) (o : Typed) (x : Tree) (ts : Trees) → addNode segwit script keys (node (wrapperKind w) 0 0 0 size o) (x ⊳ ts) ≡ some (wrap w x ⊳ ts)
+    unfolding terminalOf
     wrap-added alt size o x ts = refl
     wrap-added swap size o x ts = refl
     wrap-added check size o x ts = refl
@@ -149,8 +149,8 @@ module _ (segwit : Bool) where
     wrap-added nonZero size o x ts = refl
     wrap-added zeroNotEqual size o x ts = refl
 
-    join-added : (c : Combination) (size : ℕ) (o : Typed) (x y : Tree) (ts : Trees) → addNode segwit script keys (node (combinationKind c) 0 0 0 size o) (x ⊳ (y ⊳ ts)) ≡ some (join c x y ⊳ ts)
-    unfolding addNode
+    pub join-added : (c : Combination) (size : ℕ) (o : Typed) (x y : Tree) (ts : Trees) → addNode segwit script keys (node (combinationKind c) 0 0 0 size o) (x ⊳ (y ⊳ ts)) ≡ some (join c x y ⊳ ts)
+    unfolding terminalOf
     join-added andV size o x y ts = refl
     join-added andB size o x y ts = refl
     join-added orB size o x y ts = refl
@@ -158,20 +158,20 @@ module _ (segwit : Bool) where
     join-added orC size o x y ts = refl
     join-added orI size o x y ts = refl
 
-    and-or-added : (size : ℕ) (o : Typed) (x y z : Tree) (ts : Trees) → addNode segwit script keys (node andOrKind 0 0 0 size o) (x ⊳ (z ⊳ (y ⊳ ts))) ≡ some (andOr x y z ⊳ ts)
-    unfolding addNode
+    pub and-or-added : (size : ℕ) (o : Typed) (x y z : Tree) (ts : Trees) → addNode segwit script keys (node andOrKind 0 0 0 size o) (x ⊳ (z ⊳ (y ⊳ ts))) ≡ some (andOr x y z ⊳ ts)
+    unfolding terminalOf
     and-or-added size o x y z ts = refl
 
-    thresh-added : (k size : ℕ) (o : Typed) (x : Tree) (xs ts : Trees) → addNode segwit script keys (node threshKind k (suc (many xs)) 0 size o) (x ⊳ (_⊕_ xs ts)) ≡ some (thresh k x xs ⊳ ts)
-    unfolding addNode
+    pub thresh-added : (k size : ℕ) (o : Typed) (x : Tree) (xs ts : Trees) → addNode segwit script keys (node threshKind k (suc (many xs)) 0 size o) (x ⊳ (_⊕_ xs ts)) ≡ some (thresh k x xs ⊳ ts)
+    unfolding terminalOf
     thresh-added k size o x xs ts = take-all xs ts none (λ taken rest. some (thresh k x taken ⊳ rest))
 
-    key-read : (z : Bool) (code : ℕ) (d : Data) → keyForm z (key code d) ≡ true → DataOf script code d → key (keyCode z) (dataAt script (d .place) (keyLength z)) ≡ key code d
+    pub key-read : (z : Bool) (code : ℕ) (d : Data) → keyForm z (key code d) ≡ true → DataOf script code d → key (keyCode z) (dataAt script (d .place) (keyLength z)) ≡ key code d
     unfolding dataLength
     key-read true code d g e = let c : code ≡ BYTES33 = eqb-true code BYTES33 (and-left (eqb code BYTES33) _ g) in let f : d ≡ dataAt script (d .place) 33 = rw c at e in rw c (ap (key BYTES33) (sym f))
     key-read false code d g e = let c : code ≡ BYTES32 = eqb-true code BYTES32 g in let f : d ≡ dataAt script (d .place) 32 = rw c at e in rw c (ap (key BYTES32) (sym f))
 
-    keys-read : (z : Bool) (ks : List Key) → allMultiKeys z ks ≡ true → KeysOf script ks → keysAt script (keyPlaces ks) ≡ ks
+    pub keys-read : (z : Bool) (ks : List Key) → allMultiKeys z ks ≡ true → KeysOf script ks → keysAt script (keyPlaces ks) ≡ ks
     unfolding dataLength
     keys-read z [] g e = refl
     keys-read true (key code d ∷ ks) g e =
@@ -181,29 +181,29 @@ module _ (segwit : Bool) where
         rw (first-key, keys-read true ks (and-right (multiKey true (key code d)) (allMultiKeys true ks) g) (e .1))
     keys-read false (k ∷ ks) g e = absurd (true≢false (sym g))
 
-    datas-read : (ds : List Data) → DatasOf script ds → datasAt script (dataPlaces ds) ≡ ds
+    pub datas-read : (ds : List Data) → DatasOf script ds → datasAt script (dataPlaces ds) ≡ ds
     unfolding dataLength
     datas-read [] e = refl
     datas-read (d ∷ ds) e = let f : dataAt script (d .place) 32 ≡ d = sym (e .0) in rw (f, datas-read ds (e .1))
 
     -- the part of the key table that a tree's keys are
-    record Stands (part : List ℕ) (before : ℕ) : Type 0 where
-      front : List ℕ
-      back : List ℕ
-      whole : keys ≡ front ++ (part ++ back)
-      behind : length front ≡ before
+    pub record KeyPart (part : List ℕ) (before : ℕ) : Type 0 where
+      pub front : List ℕ
+      pub back : List ℕ
+      pub whole : keys ≡ front ++ (part ++ back)
+      pub behind : length front ≡ before
 
-    part-read : (part : List ℕ) (before n : ℕ) → Stands part before → length part ≡ n → take n (drop before keys) ≡ part
+    pub part-read : (part : List ℕ) (before n : ℕ) → KeyPart part before → length part ≡ n → take n (drop before keys) ≡ part
     part-read part before n s e = rw (← e, ← s .behind, s .whole, drop-append-seam, take-append-seam)
 
-    first-part : (a b : List ℕ) (before : ℕ) → Stands (a ++ b) before → Stands a before
+    pub first-part : (a b : List ℕ) (before : ℕ) → KeyPart (a ++ b) before → KeyPart a before
     first-part a b before s = record { front = s .front; back = b ++ s .back; whole = s .whole ∙ simp append-assoc; behind = s .behind }
 
-    second-part : (a b : List ℕ) (before n : ℕ) → Stands (a ++ b) before → length a ≡ n → Stands b (before + n)
+    pub second-part : (a b : List ℕ) (before n : ℕ) → KeyPart (a ++ b) before → length a ≡ n → KeyPart b (before + n)
     second-part a b before n s e = record { front = s .front ++ a; back = s .back; whole = s .whole ∙ simp append-assoc; behind = length-append (s .front) a ∙ (let f = s .behind in omega arith) }
 
-    leaf-added : (l : Leaf) (before : ℕ) (o : Typed) (ts : Trees) → allowedLeaf segwit l ≡ true → LeafOf script l → Stands (leafOffsets l) before → addNode segwit script keys (leafNode l before o) ts ≡ some (leaf l ⊳ ts)
-    unfolding addNode dataLength
+    pub leaf-added : (l : Leaf) (before : ℕ) (o : Typed) (ts : Trees) → allowedLeaf segwit l ≡ true → LeafOf script l → KeyPart (leafOffsets l) before → addNode segwit script keys (leafNode l before o) ts ≡ some (leaf l ⊳ ts)
+    unfolding terminalOf dataLength
     leaf-added True before o ts g e s = refl
     leaf-added False before o ts g e s = refl
     leaf-added (PkK (key code d)) before o ts g e s = ap (λ (k : Key). some (leaf (PkK k) ⊳ ts)) (key-read segwit code d g e)
@@ -225,7 +225,7 @@ module _ (segwit : Bool) where
     on-stack n rest ts us e = rw e
 
     mutual
-      nodes-read : (t : Tree) (before : ℕ) → allowed segwit t ≡ true → TreeOf script t → Stands (keysOf t) before → (rest : List Node) (ts : Trees)
+      nodes-read : (t : Tree) (before : ℕ) → allowed segwit t ≡ true → TreeOf script t → KeyPart (keysOf t) before → (rest : List Node) (ts : Trees)
           → treesOf segwit script keys (nodesOf segwit before t ++ rest) ts ≡ treesOf segwit script keys rest (t ⊳ ts)
       nodes-read (leaf l) before g e s rest ts = on-stack _ rest ts (leaf l ⊳ ts) (leaf-added l before (typeOf segwit (leaf l)) ts g e s)
       nodes-read (wrap w x) before g e s rest ts =
@@ -259,7 +259,7 @@ module _ (segwit : Bool) where
           ∙ nodes-read x b (and-left (allowed segwit x) (allAllowed segwit xs) g′) (e .0) (second-part (keyTable xs) (keysOf x) before (keyCounts xs) s (key-table-length xs)) (r ∷ rest) (_⊕_ xs ts)
           ∙ on-stack r rest (x ⊳ (_⊕_ xs ts)) (thresh k x xs ⊳ ts) (thresh-added k (size (thresh k x xs)) (typeOf segwit (thresh k x xs)) x xs ts))
 
-      all-read : (xs : Trees) (before : ℕ) → allAllowed segwit xs ≡ true → TreesOf script xs → Stands (keyTable xs) before → (rest : List Node) (ts : Trees)
+      all-read : (xs : Trees) (before : ℕ) → allAllowed segwit xs ≡ true → TreesOf script xs → KeyPart (keyTable xs) before → (rest : List Node) (ts : Trees)
           → treesOf segwit script keys (nodesFrom segwit before xs ++ rest) ts ≡ treesOf segwit script keys rest (_⊕_ xs ts)
       all-read nil before g e s rest ts = refl
       all-read (x ⊳ xs) before g e s rest ts =
@@ -268,7 +268,7 @@ module _ (segwit : Bool) where
           (all-read xs before (and-right (allowed segwit x) (allAllowed segwit xs) g) (e .1) (first-part (keyTable xs) (keysOf x) before s) (nodesOf segwit b x ++ rest) ts
           ∙ nodes-read x b (and-left (allowed segwit x) (allAllowed segwit xs) g) (e .0) (second-part (keyTable xs) (keysOf x) before (keyCounts xs) s (key-table-length xs)) rest (_⊕_ xs ts))
 
-  one-whole : (script : List ℕ) (t : Tree) → Stands script (keyTable (t ⊳ nil)) (keysOf t) 0
+  pub one-whole : (script : List ℕ) (t : Tree) → KeyPart script (keyTable (t ⊳ nil)) (keysOf t) 0
   one-whole script t = record { front = []; back = []; whole = sym (append-nil (keysOf t)); behind = refl }
 
   -- Reading a tree back off its node table, its key table and the script gives the tree

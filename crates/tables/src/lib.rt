@@ -1,4 +1,4 @@
-// What every layer shares: the definitions in specs/, their laws in proofs/, and clearing a lent table.
+// What every layer shares: the definitions in specs/, their laws in proofs/, clearing a lent table, and a number as a length.
 ghost use mathlib.Core.Path.{_≡_};
 ghost use lib.ListN.{length};
 ghost use Rattle.tables.specs.Tables.{zeros};
@@ -23,4 +23,11 @@ pub fn clear_work(work: &mut [u64])
         work[i] = 0;
         i += 1;
     }
+}
+
+// A number of 32 bits as a length or an index.
+pub fn long(x: u32) -> usize
+    ensures { λ r. ⌜ r ≡ x ⌝ }
+{
+    x as usize
 }

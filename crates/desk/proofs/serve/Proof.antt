@@ -1,26 +1,27 @@
--- `desk::serve` meets its contract. The measure is the number of turns left. Assumes nothing.
-use borrow.Author.Needs.{needs}
+-- `desk::serve` meets its contract. The measure is the number of turns left. The invariant says more than the contract, which can't name the parts
+-- that the reads gave: the line at hand is the one that all of them leave open (ServingLaws). Assumes nothing.
 use native.Mathlib.Omega.{arith}
+use denote.Ref.{now}
+use lib.ListN.{take}
+use Rattle.hex_line.specs.Feeding.{fed}
+use Rattle.desk.proofs.ServingLaws.{Serving, begun, part-answered}
+use borrow.Author.Needs.{needs}
 use Rattle.desk.proofs.serve.Statement.{statement}
 use Rattle.desk.proofs.serve.Tie as tie
 
 abbrev Inv-loop : tie.InvT-loop
-Inv-loop script₀ tokens₀ nodes₀ keys₀ work₀ out₀ input₀ line₀ turns₀ script tokens nodes keys work out input line turns = Unit {0}
+Inv-loop script₀ tokens₀ nodes₀ keys₀ work₀ out₀ input₀ line₀ turns₀ script tokens nodes keys work out input line turns =
+    Serving (fed line₀ script₀) line script
 
 abbrev μ-loop : tie.MeasureT-loop
-μ-loop script₀ tokens₀ nodes₀ keys₀ work₀ out₀ input₀ line₀ turns₀ script tokens nodes keys work out input line turns = turns
+μ-loop script₀ tokens₀ nodes₀ keys₀ work₀ out₀ input₀ line₀ turns₀ script tokens nodes keys work out input line turns =
+    turns
 
 loop-holds : tie.Need-loop-holds Inv-loop μ-loop
-loop-holds c = search needs
+loop-holds c = begun _ (now (c .args .script))
 
-next-requires : tie.Need-next-requires Inv-loop μ-loop
-next-requires c κs = search needs
-
-receive-requires : tie.Need-receive-requires Inv-loop μ-loop
-receive-requires c κs = search needs
-
-flush-requires : tie.Need-flush-requires Inv-loop μ-loop
-flush-requires c κs = search needs
+answer-part-requires : tie.Need-answer-part-requires Inv-loop μ-loop
+answer-part-requires c κs = search needs
 
 returns : tie.Need-returns Inv-loop μ-loop
 returns c = search needs
@@ -32,13 +33,7 @@ loop-less : tie.Need-loop-less Inv-loop μ-loop
 loop-less c = search needs
 
 loop-again : tie.Need-loop-again Inv-loop μ-loop
-loop-again c = search needs
-
-last-requires : tie.Need-last-requires Inv-loop μ-loop
-last-requires c κs = search needs
-
-flush-requires-2 : tie.Need-flush-requires-2 Inv-loop μ-loop
-flush-requires-2 c κs = search needs
+loop-again c = part-answered _ (c .before .before .before .before .before .before .before .before .before .before .before .loop .line) (c .before .before .before .before .before .before .before .before .before .before .before .loop .script) (take (c .before .before .answer-part .result .n) (c .before .before .answer-part .last .1 .0)) (c .before .before .answer-part .result .line) (c .before .before .answer-part .last .1 .1 .0) (c .before .before .before .before .before .before .before .before .before .before .before .loop .inv) (c .before .before .answer-part .ensures .1 (omega (arith, c .if1 .left)))
 
 returns-2 : tie.Need-returns-2 Inv-loop μ-loop
 returns-2 c = search needs
@@ -50,13 +45,9 @@ serve-spec =
     Inv-loop
     μ-loop
     loop-holds
-    next-requires
-    receive-requires
-    flush-requires
+    answer-part-requires
     returns
     sub-turns
     loop-less
     loop-again
-    last-requires
-    flush-requires-2
     returns-2)

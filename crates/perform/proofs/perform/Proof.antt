@@ -1,7 +1,5 @@
 -- `perform::perform` meets its contract. Assumes nothing.
 use Rattle.perform.proofs.ArmLaws.{small-one, small-two, small-three, one-there, two-there, three-there, many-there, told, leaf-told, keys-told, one-told, two-told, three-told}
-use Rattle.perform.proofs.ArmLaws.{small-one, small-two, small-three, one-there, two-there, three-there, many-there, told, leaf-told, keys-told}
-use Rattle.perform.proofs.ArmLaws.{small-one, small-two, small-three, one-there, two-there, three-there, many-there, told}
 use Rattle.perform.proofs.PerformLaws.{one-performs, two-performs, three-performs, many-performs, refused-performs, goes-performs}
 use Rattle.judge.specs.NodeTable.{nodeOf, makingOf}
 use denote.Ref.{now}
@@ -49,17 +47,8 @@ leaf-requires-2 c κs = search needs
 enum-known-row-6 : tie.Need-enum-known-row-6
 enum-known-row-6 c = search needs
 
-cast-leaf : tie.Need-cast-leaf
-cast-leaf c = search needs
-
-leaf-requires-3 : tie.Need-leaf-requires-3
-leaf-requires-3 c κs = search needs
-
-cast-with-keys : tie.Need-cast-with-keys
-cast-with-keys c = search needs
-
-with-keys-requires : tie.Need-with-keys-requires
-with-keys-requires c κs = search needs
+multi-requires : tie.Need-multi-requires
+multi-requires c κs = search needs
 
 enum-known-row-7 : tie.Need-enum-known-row-7
 enum-known-row-7 c = search needs
@@ -137,7 +126,7 @@ same-length-7 : tie.Need-same-length-7
 same-length-7 c = search needs
 
 returns-7 : tie.Need-returns-7
-returns-7 c = keys-told (now (c .before .before .before .before .before .before .before .before .before .before .before .before .before .before .before .before .args .tokens)) (now (c .before .before .before .before .before .before .before .before .before .before .before .before .before .before .before .before .args .nodes)) (now (c .before .before .before .before .before .before .before .before .before .before .before .before .before .before .before .before .args .keys)) (now (c .before .before .before .before .before .before .before .before .before .before .before .before .before .before .before .before .args .work)) (c .before .before .before .before .before .before .before .before .before .before .before .before .before .before .before .before .args .s) (c .before .before .before .before .before .before .before .before .before .before .before .before .before .before .before .before .pre .0) (c .before .before .before .before .before .before .before .before .before .before .before .before .before .before .before .before .args .row) (c .before .before .before .before .before .before .before .before .before .before .row6 .given .1) (c .before .before .before .before .before .before .before .leaf3 .ensures) (c .before .before .before .before .with-keys .ensures)
+returns-7 c = keys-told (now (c .before .before .before .before .before .before .before .before .before .before .before .before .before .before .args .tokens)) (now (c .before .before .before .before .before .before .before .before .before .before .before .before .before .before .args .nodes)) (now (c .before .before .before .before .before .before .before .before .before .before .before .before .before .before .args .keys)) (now (c .before .before .before .before .before .before .before .before .before .before .before .before .before .before .args .work)) (c .before .before .before .before .before .before .before .before .before .before .before .before .before .before .args .s) (c .before .before .before .before .before .before .before .before .before .before .before .before .before .before .pre .0) (c .before .before .before .before .before .before .before .before .before .before .before .before .before .before .args .row) (c .before .before .before .before .before .before .before .before .row6 .given .1) refl (c .before .before .before .before .multi .ensures)
 
 same-length-8 : tie.Need-same-length-8
 same-length-8 c = search needs
@@ -180,10 +169,7 @@ perform-spec =
     leaf-requires
     leaf-requires-2
     enum-known-row-6
-    cast-leaf
-    leaf-requires-3
-    cast-with-keys
-    with-keys-requires
+    multi-requires
     enum-known-row-7
     reduce1-requires
     finish-requires

@@ -43,7 +43,7 @@ pub mod vec {
         /// type is private to decode.rs, so its name is all there is to go by. A `pop` that finds the list empty takes nothing off.
         #[inline]
         pub fn pop(&mut self) -> Option<T> {
-            if !self.0.is_empty() && core::any::type_name::<T>().ends_with("::decode::NonTerm") {
+            if cfg!(not(feature = "uncounted")) && !self.0.is_empty() && core::any::type_name::<T>().ends_with("::decode::NonTerm") {
                 super::STEPS.with(|s| s.set(s.get() + 1));
                 super::MOST.with(|m| m.set(m.get().max(self.0.len())));
             }

@@ -1,0 +1,3 @@
+-- The verdict of the closing checks.
+pub mod Verdicts
+pub mod Held

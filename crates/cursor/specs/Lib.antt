@@ -1,0 +1,3 @@
+-- The token cursor.
+pub mod Reading
+pub mod ReadingTheorems

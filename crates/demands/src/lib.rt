@@ -1,0 +1,1 @@
+// The demands as theorems over the public entries: see specs/. No code.

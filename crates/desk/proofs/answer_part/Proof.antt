@@ -1,0 +1,22 @@
+-- `desk::answer_part` meets its contract. What `receive` and `write_out` ensure together (ServingLaws). Assumes nothing.
+use native.Mathlib.Omega.{arith}
+use denote.Ref.{now}
+use Rattle.desk.proofs.ServingLaws.{part-sent}
+use borrow.Author.Needs.{needs}
+use Rattle.desk.proofs.answer_part.Statement.{statement}
+use Rattle.desk.proofs.answer_part.Tie as tie
+
+next-requires : tie.Need-next-requires
+next-requires c κs = search needs
+
+receive-requires : tie.Need-receive-requires
+receive-requires c κs = search needs
+
+write-out-requires : tie.Need-write-out-requires
+write-out-requires c κs = (c .before .before .before .before .before .before .before .before .before .before .before .before .before .next .ensures .0, omega (arith, c .before .before .before .before .before .before .before .receive .ensures .0))
+
+returns : tie.Need-returns
+returns c = part-sent (c .before .before .before .before .before .before .before .before .before .before .before .before .before .before .before .before .args .line) (c .before .before .before .before .before .before .before .before .before .before .before .before .before .before .next .result) (c .before .before .before .before .before .before .before .before .before .before .before .before .before .before .next .last .0) (now (c .before .before .before .before .before .before .before .before .before .before .before .before .before .before .before .before .args .script)) (c .before .before .before .before .before .before .before .before .receive .last .1 .1 .1 .1 .0) (c .before .before .before .before .before .before .before .before .receive .last .1 .1 .1 .1 .1 .0) (c .before .before .before .before .before .before .before .before .receive .result) (c .write-out .result .line) (c .write-out .last .1 .1 .1 .0) (c .write-out .result .n) (c .before .before .before .before .before .before .before .before .before .before .before .before .before .before .next .ensures .0) (c .before .before .before .before .before .before .before .before .before .before .before .before .before .before .next .ensures .1) (c .before .before .before .before .before .before .before .before .receive .ensures .1) (c .write-out .ensures)
+
+pub answer-part-spec : {M : Type 1} → statement M
+answer-part-spec = tie.close (tie.spec next-requires receive-requires write-out-requires returns)

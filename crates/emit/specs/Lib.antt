@@ -1,0 +1,2 @@
+-- Writing lexemes one after the other.
+pub mod Emission

@@ -1,0 +1,2 @@
+-- Laws of writing keys.
+pub mod KeyLaws

@@ -1,0 +1,2 @@
+-- Multis and multi_as with their keys.
+pub mod Multis

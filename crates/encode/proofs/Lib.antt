@@ -1,0 +1,2 @@
+-- Laws of the encoder.
+pub mod EncodeLaws

@@ -1,0 +1,4 @@
+-- The encoder.
+pub mod Encode
+pub mod Decided
+pub mod EncodeTheorems

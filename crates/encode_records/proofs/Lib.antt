@@ -1,0 +1,2 @@
+-- Laws of the flat part.
+pub mod FrontLaws

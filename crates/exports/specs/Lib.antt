@@ -1,0 +1,5 @@
+-- What the exported entries answer.
+pub mod Answers
+pub mod AnswerLaws
+pub mod Encodings
+pub mod EncodingLaws

@@ -1,0 +1,2 @@
+-- Laws of the part that is handed back.
+pub mod PartLaws

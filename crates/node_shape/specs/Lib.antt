@@ -1,0 +1,2 @@
+-- What the checks of one node answer.
+pub mod Shapes

@@ -1,0 +1,4 @@
+-- Laws of the pieces.
+pub mod EntryLaws
+pub mod TemplateLaws
+pub mod WriteLaws

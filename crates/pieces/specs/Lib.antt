@@ -1,0 +1,2 @@
+-- The pieces of a script still to be written.
+pub mod Pieces

@@ -1,0 +1,248 @@
+// Reads document 01's scripts to try at the counter through the two records that are lent: the nodes into a slice of node
+// records (crate `read_records`), and the tokens back from the last to the first through the token cursor (crate `cursor`).
+// All tables are ample and full of junk before. For each script it writes: the script; the seven numbers of the answer; if
+// it is accepted, each token as it is looked at, taken and put back: its code, number and place and how many are left after
+// it; and the eight records, nine numbers each.
+// The stored output was made from that of `reader_cases`, which a reading of document 01 in Python wrote.
+ghost use mathlib.Core.Path.{_≡_};
+ghost use Prim.Native.Nat.{_+_, _-_, _*_, _≤_, _<_};
+ghost use lib.ListN.{length, getD};
+ghost use Rattle.decode.specs.Read.{lengthsOf};
+ghost use Rattle.node_records.specs.Records.{zeroRecord};
+ghost use Rattle.read_records.specs.RecordOutcome.{recordOutcomeOf};
+use cursor::NextToken;
+use decode::Answer;
+use judge::Node;
+
+// The value of a hexadecimal digit, 16 for any other character.
+fn nibble(b: u8) -> u8
+    ensures { λ r. ⌜ r ≤ 16 ⌝ }
+{
+    match b {
+        48..=57 => b - 48,
+        97..=102 => b - 87,
+        _ => 16,
+    }
+}
+
+// The bytes of a text in hexadecimal, at the front of dst; how many, up to the first character that is no digit.
+fn unhex(src: &[u8], dst: &mut [u8]) -> usize
+    ensures { λ r. ⌜ r ≤ length (now (dst .entry)) ⌝ }
+{
+    let mut n = 0;
+    while n < dst.len() {
+        if src.len() - n < n + 2 {
+            break;
+        }
+        let a = nibble(src[n + n]);
+        let b = nibble(src[n + n + 1]);
+        if 15 < a {
+            break;
+        }
+        if 15 < b {
+            break;
+        }
+        dst[n] = 16 * a + b;
+        n += 1;
+    }
+    n
+}
+
+fn word(x: u32) -> u64 {
+    x as u64
+}
+
+fn long(x: usize) -> u64 {
+    x as u64
+}
+
+fn space() {
+    io::write_all(1, b" ");
+}
+
+fn line() {
+    io::write_all(1, b"\n");
+}
+
+fn cell(x: u32) {
+    space();
+    io::print_hex(1, word(x), 1);
+}
+
+// The seven numbers of an answer.
+fn header(a: Answer) {
+    io::print_hex(1, word(a.number), 2);
+    space();
+    io::print_hex(1, word(a.reason), 2);
+    space();
+    io::print_hex(1, long(a.place), 8);
+    space();
+    io::print_hex(1, long(a.tokens), 8);
+    space();
+    io::print_hex(1, long(a.steps), 8);
+    space();
+    io::print_hex(1, long(a.nodes), 8);
+    space();
+    io::print_hex(1, long(a.keys), 8);
+    line();
+}
+
+// The token that is next is looked at, taken, put back and taken again.
+fn show_next(tokens: &[u32], left: usize) -> usize
+    requires { ⌜ (1 ≤ left) × (3 * left ≤ length (now tokens)) ⌝ }
+    ensures { λ r. ⌜ r ≡ left - 1 ⌝ }
+{
+    let ahead = cursor::look(tokens, left);
+    let once = cursor::take(tokens, left);
+    let back = cursor::put_back(tokens, once.left);
+    let again = cursor::take(tokens, back);
+    io::write_all(1, b"t");
+    match ahead {
+        NextToken::Nothing => {}
+        NextToken::Token {
+            code,
+            number,
+            place,
+        } => {
+            cell(code);
+            cell(number);
+            cell(place);
+        }
+    }
+    space();
+    io::print_hex(1, long(again.left), 1);
+    line();
+    again.left
+}
+
+// All tokens, the last one first.
+fn show_tokens(tokens: &[u32], count: usize)
+    requires { ⌜ 3 * count ≤ length (now tokens) ⌝ }
+{
+    let mut left = count;
+    while 0 < left {
+        left = show_next(tokens, left);
+    }
+}
+
+// A record's nine numbers.
+fn show_record(n: Node) {
+    io::write_all(1, b"r");
+    cell(n.kind);
+    cell(n.number);
+    cell(n.count);
+    cell(n.place);
+    cell(n.size);
+    cell(n.base);
+    cell(n.input);
+    cell(n.d);
+    cell(n.u);
+    line();
+}
+
+// Record i of the eight that a reading fills.
+fn record_read(
+    kind: u32,
+    script: &[u8],
+    tokens: &mut [u32],
+    nodes: &mut [u32],
+    keys: &mut [u32],
+    work: &mut [u64],
+    i: usize,
+) -> Node
+    requires { ⌜ i < 8 ⌝ }
+    ensures { λ r. ⌜ r ≡ getD (recordOutcomeOf kind (now (script .entry)) (lengthsOf (now (tokens .entry)) (now (nodes .entry)) (now (keys .entry)) (now (work .entry))) 8 .records) i zeroRecord ⌝ }
+{
+    let mut records = [node_records::zero_record(); 8];
+    read_records::read_records(kind, script, tokens, nodes, &mut records, keys, work);
+    records[i]
+}
+
+// A reading into tables full of junk, and one of its records.
+fn read_into_junk(kind: u32, script: &[u8], i: usize)
+    requires { ⌜ i < 8 ⌝ }
+{
+    let mut tokens = [0xdeadbeefu32; 31];
+    let mut nodes = [0xdeadbeefu32; 74];
+    let mut keys = [0xdeadbeefu32; 3];
+    let mut work = [0xdeadbeefdeadbeefu64; 12];
+    let n = record_read(
+        kind,
+        script,
+        &mut tokens,
+        &mut nodes,
+        &mut keys,
+        &mut work,
+        i,
+    );
+    show_record(n);
+}
+
+fn show_records(kind: u32, script: &[u8]) {
+    let mut i = 0;
+    while i < 8 {
+        read_into_junk(kind, script, i);
+        i += 1;
+    }
+}
+
+// The answer, and the tokens of a script that is accepted.
+fn show_reading(kind: u32, script: &[u8]) {
+    let mut tokens = [0xdeadbeefu32; 31];
+    let mut nodes = [0xdeadbeefu32; 74];
+    let mut keys = [0xdeadbeefu32; 3];
+    let mut work = [0xdeadbeefdeadbeefu64; 12];
+    let a = decode::read(kind, script, &mut tokens, &mut nodes, &mut keys, &mut work);
+    header(a);
+    if a.number != 0 {
+        return;
+    }
+    if 10 < a.tokens {
+        return;
+    }
+    show_tokens(&tokens, a.tokens);
+}
+
+fn run(kind: u32, hex: &[u8]) {
+    io::print_hex(1, word(kind), 2);
+    io::write_all(1, hex);
+    line();
+    let mut script = [0u8; 80];
+    let n = unhex(hex, &mut script);
+    show_reading(kind, &script[..n]);
+    show_records(kind, &script[..n]);
+}
+
+// The twelve before the bar.
+fn proved_together() {
+    run(0, b"");
+    run(0, b"51");
+    run(0, b"516951");
+    run(0, b"5169516951");
+    run(0, b"6351670068");
+    run(0, b"517c519b");
+    run(0, b"005187");
+    run(0, b"005287");
+    run(0, b"6351");
+    run(0, b"8769");
+    run(0, b"00b2");
+    run(0, b"7663516968");
+}
+
+// Those behind it, but for the long one.
+fn run_only() {
+    run(0, b"51b2");
+    run(0, b"0105");
+    run(0, b"0111");
+    run(0, b"0180");
+    run(0, b"0191");
+    run(0, b"027f00");
+    run(0, b"4c");
+    run(0, b"4f");
+    run(0, b"88");
+}
+
+fn main() {
+    proved_together();
+    run_only();
+}

@@ -1,0 +1,3 @@
+-- The rows run over lent tables.
+pub mod Stepping
+pub mod Runs

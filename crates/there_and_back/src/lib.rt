@@ -1,0 +1,1 @@
+// From a tree to bytes and back: the theorems alone, see specs/ and proofs/.

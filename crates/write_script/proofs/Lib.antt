@@ -1,0 +1,6 @@
+-- Laws of the writing pass.
+pub mod TextLaws
+pub mod WholeLaws
+pub mod StepLaws
+pub mod NodeLaws
+pub mod PassLaws

@@ -1,0 +1,2 @@
+-- Laws of what a step writes.
+pub mod RoomLaws

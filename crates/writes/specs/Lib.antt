@@ -1,0 +1,2 @@
+-- What a step writes to the lent tables.
+pub mod Written
