@@ -33,24 +33,31 @@ not-listed code h none =
 
 -- The four fused forms
 
-module _ (code : ℕ) where
+module _ {code : ℕ} where
   pub fused-equal : code ≡ 4 → (true ≡ hasFused code) × (0x88 ≡ fusedByte code)
   unfolding hasFused fusedByte
-  fused-equal h = (simp (eq-eqb code 4 h), simp (eq-eqb code 4 h))
+  fused-equal h = (ap hasFused (sym h), ap fusedByte (sym h))
 
-  module _ (a : code ≡ 4 → ⊥) where
-    pub fused-num-equal : code ≡ 5 → (true ≡ hasFused code) × (0x9d ≡ fusedByte code)
-    unfolding hasFused fusedByte
-    fused-num-equal h = (simp (ne-eqb code 4 a, eq-eqb code 5 h), simp (ne-eqb code 4 a, eq-eqb code 5 h))
+  pub fused-num-equal : code ≡ 5 → (true ≡ hasFused code) × (0x9d ≡ fusedByte code)
+  unfolding hasFused fusedByte
+  fused-num-equal h = (ap hasFused (sym h), ap fusedByte (sym h))
 
-    module _ (b : code ≡ 5 → ⊥) where
-      pub fused-check-sig : code ≡ 6 → (true ≡ hasFused code) × (0xad ≡ fusedByte code)
-      unfolding hasFused fusedByte
-      fused-check-sig h = (simp (ne-eqb code 4 a, ne-eqb code 5 b, eq-eqb code 6 h), simp (ne-eqb code 4 a, ne-eqb code 5 b, eq-eqb code 6 h))
+  pub fused-check-sig : code ≡ 6 → (true ≡ hasFused code) × (0xad ≡ fusedByte code)
+  unfolding hasFused fusedByte
+  fused-check-sig h = (ap hasFused (sym h), ap fusedByte (sym h))
 
-      pub fused-last : (code ≡ 6 → ⊥) → (eqb code 8 ≡ hasFused code) × (0xaf ≡ fusedByte code)
-      unfolding hasFused fusedByte
-      fused-last h = (simp (ne-eqb code 4 a, ne-eqb code 5 b, ne-eqb code 6 h), simp (ne-eqb code 4 a, ne-eqb code 5 b, ne-eqb code 6 h))
+  pub fused-check-multi-sig : code ≡ 8 → true ≡ hasFused code
+  unfolding hasFused
+  fused-check-multi-sig h = ap hasFused (sym h)
+
+  module _ (a : code ≡ 4 → ⊥) (b : code ≡ 5 → ⊥) (c : code ≡ 6 → ⊥) where
+    pub fused-last : 0xaf ≡ fusedByte code
+    unfolding fusedByte
+    fused-last = simp (ne-eqb code 4 a, ne-eqb code 5 b, ne-eqb code 6 c)
+
+    pub fused-none : (code ≡ 8 → ⊥) → false ≡ hasFused code
+    unfolding hasFused
+    fused-none d = simp (ne-eqb code 4 a, ne-eqb code 5 b, ne-eqb code 6 c, ne-eqb code 8 d)
 
 pub fusing-when : (last code : ℕ) {r : Bool} → r ≡ hasFused last → r ≡ true → eqb code 23 ≡ fusing last code
 fusing-when last code e h = rw (sym e ∙ h) refl

@@ -51,34 +51,28 @@ fn opcode_byte(code: u32) -> u8
     }
 }
 
+// The opcodes that have a form with VERIFY in it: all four of them.
 fn has_fused(code: u32) -> bool
     ensures { λ r. ⌜ r ≡ hasFused code ⌝ }
 {
-    if code == token::EQUAL {
-        return true;
+    match code {
+        token::EQUAL => true,
+        token::NUM_EQUAL => true,
+        token::CHECK_SIG => true,
+        token::CHECK_MULTI_SIG => true,
+        _ => false,
     }
-    if code == token::NUM_EQUAL {
-        return true;
-    }
-    if code == token::CHECK_SIG {
-        return true;
-    }
-    code == token::CHECK_MULTI_SIG
 }
 
 fn fused_byte(code: u32) -> u8
     ensures { λ r. ⌜ r ≡ fusedByte code ⌝ }
 {
-    if code == token::EQUAL {
-        return 0x88;
+    match code {
+        token::EQUAL => 0x88,
+        token::NUM_EQUAL => 0x9d,
+        token::CHECK_SIG => 0xad,
+        _ => 0xaf,
     }
-    if code == token::NUM_EQUAL {
-        return 0x9d;
-    }
-    if code == token::CHECK_SIG {
-        return 0xad;
-    }
-    0xaf
 }
 
 // Whether an opcode and the last one are written as one.

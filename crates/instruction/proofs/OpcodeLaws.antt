@@ -46,10 +46,10 @@ pub is-above : (b : ℕ) → 0x60 < b → Unlisted ≡ ranged b
 unfolding ranged
 is-above b l = simp (le-leb 0x51 b (omega arith), lt-leb b 0x60 l)
 
--- a length stands in at most four bytes
+-- a length stands in at most four bytes, and is 76 at the least
 abbrev narrow : Op → Bool
 narrow (Push n) = true
-narrow (Sized w least) = leb w 4
+narrow (Sized w least) = pick (leb w 4) (leb 76 least) false
 narrow (Num n) = true
 narrow (One c) = true
 narrow (Fused c) = true
@@ -79,5 +79,11 @@ narrow-ranged b = here (leb 0x51 b) (leb b 0x60) (leb b 0x4b)
     here false q true = refl
     here false q false = refl
 
-pub width-narrow : (b w least : ℕ) {o : Op} → o ≡ opOf b → o ≡ Sized w least → w ≤ 4
-width-narrow b w least e p = leb-true w 4 (sym (ap narrow (sym e ∙ p)) ∙ narrow-row b (ranged b) rows refl (narrow-ranged b))
+both-tests : (a b : Bool) → pick a b false ≡ true → (a ≡ true) × (b ≡ true)
+both-tests true b e = (refl, e)
+both-tests false b e = absurd (true≢false (sym e))
+
+pub width-narrow : (b w least : ℕ) {o : Op} → o ≡ opOf b → o ≡ Sized w least → (w ≤ 4) × (76 ≤ least)
+width-narrow b w least e p =
+    let t : (leb w 4 ≡ true) × (leb 76 least ≡ true) = both-tests (leb w 4) (leb 76 least) (sym (ap narrow (sym e ∙ p)) ∙ narrow-row b (ranged b) rows refl (narrow-ranged b)) in
+    (leb-true w 4 (t .0), leb-true 76 least (t .1))

@@ -114,3 +114,16 @@ module _ (s : List ℕ) (at w least : ℕ) where
           le-leb (1 + w) (length (drop at s)) (omega (arith, length-drop at s)),
           le-ltb (littleEndian (take w (drop 1 (drop at s)))) least (omega (arith, length-read read)),
         )
+
+    -- no token has 76 bytes or more
+    module _ (long : 76 ≤ least) (enough : least ≤ n) where
+      pub long-data-missing : length s - (at + (1 + w)) < n → Refused 2 ≡ sizedOf (drop at s) w least
+      long-data-missing m =
+          wide-enough enough
+          (data-missing s at (1 + w) n (omega arith) (sym (opcode-many s at (1 + w) n (λ q. omega arith))) m)
+
+      pub long-data-there : n ≤ length s - (at + (1 + w)) → Refused 4 ≡ sizedOf (drop at s) w least
+      long-data-there m =
+          wide-enough enough
+          (data-there s at (1 + w) n (omega arith) (sym (opcode-many s at (1 + w) n (λ q. omega arith))) m
+          (is-other _ n _ (λ q. omega arith) (λ q. omega arith) (λ q. omega arith) (λ q. omega arith) (omega arith)))

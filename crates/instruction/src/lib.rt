@@ -240,9 +240,9 @@ fn push(s: &[u8], at: usize, head: usize, n: usize) -> Lexed
     push_token(s, start, n, head + n)
 }
 
-// A push whose length stands in `width` bytes behind the opcode.
+// A push whose length stands in `width` bytes behind the opcode. It has 76 bytes at the least, and no token has so many.
 fn sized(s: &[u8], at: usize, width: usize, least: usize) -> Lexed
-    requires { ⌜ (at < length (now s)) × (width ≤ 4) ⌝ }
+    requires { ⌜ (at < length (now s)) × (width ≤ 4) × (76 ≤ least) ⌝ }
     ensures { λ r. ⌜ r ≡ sizedOf (drop at (now (s .entry))) width least ⌝ }
 {
     if s.len() - at < 1 + width {
@@ -252,7 +252,11 @@ fn sized(s: &[u8], at: usize, width: usize, least: usize) -> Lexed
     if n < least {
         return Lexed::Refused(3);
     }
-    push(s, at, 1 + width, n)
+    let start = at + (1 + width);
+    if s.len() - start < n {
+        return Lexed::Refused(2);
+    }
+    Lexed::Refused(4)
 }
 
 // Whether a VERIFY after a token with this code has to be refused, since the two have a fused form.

@@ -31,7 +31,7 @@ enum-known-asked-2 : tie.Need-enum-known-asked-2
 enum-known-asked-2 c = search needs
 
 sized-requires : tie.Need-sized-requires
-sized-requires c κs = (c .before .before .before .before .before .if1 .left, width-narrow (getD (now (c .before .before .before .before .before .before .before .args .s)) (c .before .before .before .before .before .before .before .args .at) 0) _ _ (c .before .before .before .opcode .ensures) (c .before .asked2 .given .1))
+sized-requires c κs = (c .before .before .before .before .before .if1 .left, width-narrow (getD (now (c .before .before .before .before .before .before .before .args .s)) (c .before .before .before .before .before .before .before .args .at) 0) _ _ (c .before .before .before .opcode .ensures) (c .before .asked2 .given .1) .0, width-narrow (getD (now (c .before .before .before .before .before .before .before .args .s)) (c .before .before .before .before .before .before .before .args .at) 0) _ _ (c .before .before .before .opcode .ensures) (c .before .asked2 .given .1) .1)
 
 enum-known-asked-3 : tie.Need-enum-known-asked-3
 enum-known-asked-3 c = search needs
