@@ -84,7 +84,7 @@ part-ended input n hand script nodes keys line after at used l s whole w e h =
 pub line-ended : (input : List ℕ) (n : ℕ) (hand : Hand) (script nodes keys : List ℕ) (line : Line) (after : List ℕ) (at used : ℕ) (header : Header) → 4096 ≡ length input → n ≤ 4096
     → hand .at < n
     → stopped (fed line after) at ≡ lineFed (take n input) (hand .at) (fed (hand .line) script) → at < n → listing header nodes keys ≡ textOf (toldOf (fed line after))
-    → Takes hand n (take n input) script (record { line = Nothing; at = at + 1; header = header; next = 0; used = used }) after nodes keys
+    → Takes hand n (take n input) script (record { line = Nothing; at = at + 1; header = header; next = 0; used = 0 }) after nodes keys
 line-ended input n hand script nodes keys line after at used header l s w e h t =
     let part : List ℕ = take n input in
     let p : length part ≡ n = part-length input n s l in
@@ -99,12 +99,13 @@ line-ended input n hand script nodes keys line after at used header l s w e h t 
 abbrev pub Receives : Line → ℕ → List ℕ → Hand → List ℕ → List ℕ → Type 0
 Receives line n script r nodes keys =
     (r .at ≡ 0)
+    × (r .used ≡ 0)
     × ((part : List ℕ) → length part ≡ n
     → (owed r part script nodes keys ≡ due (fed line script) part) × (0 < n → leaves r part script ≡ leftBy (fed line script) part))
 
 -- the beginning of a part
 pub part-came : (line : Line) (n : ℕ) (script nodes keys : List ℕ) (r : Hand) → r ≡ started line → 0 < n → Receives line n script r nodes keys
-part-came line n script nodes keys r e h = subst (λ (x : Hand). Receives line n script x nodes keys) (sym e) (refl, here)
+part-came line n script nodes keys r e h = subst (λ (x : Hand). Receives line n script x nodes keys) (sym e) (refl, refl, here)
   where
     here : (part : List ℕ) → length part ≡ n
         → (owed (started line) part script nodes keys ≡ due (fed line script) part) × (0 < n → leaves (started line) part script ≡ leftBy (fed line script) part)
@@ -114,7 +115,7 @@ part-came line n script nodes keys r e h = subst (λ (x : Hand). Receives line n
 -- the end of the input: nothing, or one line more
 pub nothing-came : (line : Line) (n : ℕ) (script nodes keys : List ℕ) (r : Hand) {t : Bool} → r ≡ started line → n ≤ 0 → t ≡ untouched line → t ≡ true
     → Receives line n script r nodes keys
-nothing-came line n script nodes keys r {t} e h q p = subst (λ (x : Hand). Receives line n script x nodes keys) (sym e) (refl, here)
+nothing-came line n script nodes keys r {t} e h q p = subst (λ (x : Hand). Receives line n script x nodes keys) (sym e) (refl, refl, here)
   where
     u : untouched line ≡ true
     u = sym q ∙ p
@@ -124,17 +125,17 @@ nothing-came line n script nodes keys r {t} e h q p = subst (λ (x : Hand). Rece
     here [] l = (simp u, λ z. absurd (omega arith))
     here (b ∷ part) l = absurd (omega arith)
 
-pub last-came : (line : Line) (n : ℕ) (script nodes keys : List ℕ) (header : Header) (used : ℕ) {t : Bool} → n ≤ 0 → t ≡ untouched line → t ≡ false
+pub last-came : (line : Line) (n : ℕ) (script nodes keys : List ℕ) (header : Header) {t : Bool} → n ≤ 0 → t ≡ untouched line → t ≡ false
     → listing header nodes keys ≡ textOf (toldOf (fed line script))
-    → Receives line n script (record { line = line; at = 0; header = header; next = 0; used = used }) nodes keys
-last-came line n script nodes keys header used {t} h q p told = (refl, here)
+    → Receives line n script (record { line = line; at = 0; header = header; next = 0; used = 0 }) nodes keys
+last-came line n script nodes keys header {t} h q p told = (refl, refl, here)
   where
     u : untouched line ≡ false
     u = sym q ∙ p
 
     here : (part : List ℕ) → length part ≡ n
-        → (owed (record { line = line; at = 0; header = header; next = 0; used = used }) part script nodes keys ≡ due (fed line script) part)
-        × (0 < n → leaves (record { line = line; at = 0; header = header; next = 0; used = used }) part script ≡ leftBy (fed line script) part)
+        → (owed (record { line = line; at = 0; header = header; next = 0; used = 0 }) part script nodes keys ≡ due (fed line script) part)
+        × (0 < n → leaves (record { line = line; at = 0; header = header; next = 0; used = 0 }) part script ≡ leftBy (fed line script) part)
     here [] l =
         (ap (λ (text : List ℕ). text ++ []) (all-left header nodes keys ∙ told) ∙ simp u, λ z. absurd (omega arith))
     here (b ∷ part) l = absurd (omega arith)

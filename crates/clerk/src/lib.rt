@@ -1,12 +1,13 @@
 // What the desk does between a read and a write: bytes of the input in, text for the output out (document 01, section "Program").
 //
 // No function here makes a system call. A caller reads some bytes of the input, has them taken by `receive`, and then calls `turn` and
-// writes what it laid out, again and again until a turn lays out nothing. The contracts settle the rest: what is laid out, turn after turn,
+// writes what it laid out, again and again until a turn lays out nothing. What is written is crossed off by `written`, and no turn is taken
+// while bytes of the one before it wait. The contracts settle the rest: what is laid out, turn after turn,
 // is what Program.antt says of the whole input, however it came cut into parts (ProgramLaws), and the line that a part leaves open goes on
 // with the next.
 ghost use mathlib.Core.Path.{_≡_};
 ghost use mathlib.Core.List.{List, _++_};
-ghost use Prim.Native.Nat.{ℕ, _≤_, _<_};
+ghost use Prim.Native.Nat.{ℕ, _-_, _≤_, _<_};
 ghost use lib.ListN.{length, take, drop};
 ghost use Rattle.hex_line.specs.Feeding.{fed, toldIn, leftBy};
 ghost use Rattle.reply.specs.Program.{textsOf};
@@ -24,7 +25,7 @@ pub struct Hand {
     pub header: Header,
     // The first of its lines that is not laid out yet.
     pub next: usize,
-    // How many bytes at the front of the output the last turn laid out.
+    // How many of the bytes that the last turn laid out, at the front of the output, are not written yet.
     pub used: usize,
 }
 
@@ -141,7 +142,7 @@ pub fn turn(
     work: &mut [u64; 1024],
     out: &mut [u8; 8192],
 ) -> Hand
-    requires { ⌜ (n ≤ 4096) × (hand .at ≤ n) ⌝ }
+    requires { ⌜ (n ≤ 4096) × (hand .at ≤ n) × (hand .used ≡ 0) ⌝ }
     ensures { λ r. ⌜ (r .at ≤ n) × (r .used ≤ 8192) × (r .used ≡ 0 → Answered r n) × (leaves r (take n (now (input .entry))) (now (script .exit)) ≡ leaves hand (take n (now (input .entry))) (now (script .entry))) × (take (r .used) (now (out .exit)) ++ owed r (take n (now (input .entry))) (now (script .exit)) (now (nodes .exit)) (now (keys .exit)) ≡ owed hand (take n (now (input .entry))) (now (script .entry)) (now (nodes .entry)) (now (keys .entry))) ⌝ }
 {
     let mut held = lay_out(hand, 0, nodes, keys, out);
@@ -151,6 +152,16 @@ pub fn turn(
         held = lay_out(taken, used, nodes, keys, out);
     }
     held
+}
+
+// The same hand, after so many more of the bytes that wait at the front of the output have been written.
+pub fn written(hand: Hand, count: usize) -> Hand
+    requires { ⌜ count ≤ hand .used ⌝ }
+    ensures { λ r. ⌜ r ≡ laid hand (hand .next) (hand .used - count) ⌝ }
+{
+    let next = hand.next;
+    let left = hand.used - count;
+    moved(hand, next, left)
 }
 
 // Nothing of a part read, and nothing to be laid out yet.
@@ -185,7 +196,7 @@ pub fn receive(
     keys: &mut [u32; 128],
     work: &mut [u64; 1024],
 ) -> Hand
-    ensures { λ r. ⌜ (r .at ≡ 0) × ((part : List ℕ) → length part ≡ n → (owed r part (now (script .entry)) (now (nodes .exit)) (now (keys .exit)) ≡ due (fed line (now (script .entry))) part) × (0 < n → leaves r part (now (script .entry)) ≡ leftBy (fed line (now (script .entry))) part)) ⌝ }
+    ensures { λ r. ⌜ (r .at ≡ 0) × (r .used ≡ 0) × ((part : List ℕ) → length part ≡ n → (owed r part (now (script .entry)) (now (nodes .exit)) (now (keys .exit)) ≡ due (fed line (now (script .entry))) part) × (0 < n → leaves r part (now (script .entry)) ≡ leftBy (fed line (now (script .entry))) part)) ⌝ }
 {
     if n > 0 {
         return start(line);

@@ -1,12 +1,12 @@
 // The system calls of the desk: standard input is read part by part, and what the clerk lays out is written to standard output (document 01,
 // section "Program"). In a library, so that a program of the repository is one call of `run` over a list of its own.
 //
-// Outside the proof, since no contract can say which bytes a system call read or wrote:
+// Outside the proof are the two system calls. Of each a contract can say how many bytes it says that it moved, and no more:
 //   that `next` leaves the next n bytes of standard input at the front of the lent input, and answers 0 only at its end;
-//   that `write_front` writes the first `used` bytes of the output, all of them and in order;
-//   that `write_out` calls `write_front` once after each turn of the clerk that lays something out.
-// All else is proved, in `clerk` and below: what a turn lays out, from the bytes that lie in the input; and here, that the line which a part
-// of the input leaves open is the one that the next part goes on with, that the turns for a part end, and that they end with nothing owed.
+//   that `write_some` writes the first of the bytes that wait, and crosses off as many as were taken.
+// All else is proved, in `clerk` and below: what a turn lays out, from the bytes that lie in the input; and here, that every byte of a turn
+// is crossed off before the next turn, that the line which a part of the input leaves open is the one that the next part goes on with, that
+// the turns for a part end, and that they end with nothing owed and nothing waiting.
 //
 // A read or a write that a signal interrupts is tried again. One that fails is told on standard error with the system's reason: after a read
 // the input ends there, so that what came before is answered; after a write nothing more is written, so that no listing is missing between
@@ -23,10 +23,10 @@
 //   os::fail, while a failure is told        4,160
 //   in all                                  56,584, under 64 KiB (65,536)
 ghost use mathlib.Core.Path.{_≡_};
-ghost use Prim.Native.Nat.{_+_, _≤_, _<_};
+ghost use Prim.Native.Nat.{_≤_, _<_};
 ghost use lib.ListN.{length, take};
 ghost use Rattle.hex_line.specs.Feeding.{fed, leftBy};
-ghost use Rattle.clerk.specs.Owed.{leaves};
+ghost use Rattle.clerk.specs.Owed.{leaves, laid};
 use clerk::Hand;
 use hex_line::Line;
 use libc::EINTR;
@@ -59,40 +59,43 @@ fn next(input: &mut [u8; 4096]) -> usize
     0
 }
 
-// One write of the output from a byte up to another. Answers how many bytes it took; 0 if it failed.
-fn write_some(out: &[u8], from: usize, to: usize) -> usize
-    requires { ⌜ (from ≤ to) × (to ≤ length (now out)) ⌝ }
-    ensures { λ r. ⌜ from + r ≤ to ⌝ }
+// One write of the bytes that wait, the last ones before byte `to` of the output. Those that it took are crossed off: none if it failed.
+fn write_some(out: &[u8], to: usize, hand: Hand) -> Hand
+    requires { ⌜ (hand .used ≤ to) × (to ≤ length (now out)) ⌝ }
+    ensures { λ r. ⌜ (r ≡ laid hand (hand .next) (r .used)) × (r .used ≤ hand .used) ⌝ }
 {
+    let from = to - hand.used;
     let mut tries = u64::MAX;
     while tries > 0 {
         let rest = &out[from..to];
         let got = libc::write(STDOUT_FILENO, rest);
         if got >= 0 {
-            return io::count(got, rest);
+            return clerk::written(hand, io::count(got, rest));
         }
         if os::errno() != EINTR {
-            return 0;
+            return hand;
         }
         tries -= 1;
     }
-    0
+    hand
 }
 
-// The first `used` bytes of the output, written. Answers whether all of them were: a write that is cut short goes on.
-fn write_front(out: &[u8], used: usize) -> bool
-    requires { ⌜ used ≤ length (now out) ⌝ }
+// The bytes that a turn laid out, written: a write that is cut short goes on. Some are left only where a write failed.
+fn write_front(out: &[u8], hand: Hand) -> Hand
+    requires { ⌜ hand .used ≤ length (now out) ⌝ }
+    ensures { λ r. ⌜ r ≡ laid hand (hand .next) (r .used) ⌝ }
 {
-    let mut done = 0;
-    while done < used {
-        let took = write_some(out, done, used);
-        if took == 0 {
+    let to = hand.used;
+    let mut held = hand;
+    while held.used > 0 {
+        let before = held.used;
+        held = write_some(out, to, held);
+        if held.used == before {
             os::fail(b"a write failed, and the listings end here");
-            return false;
+            return held;
         }
-        done += took;
     }
-    true
+    held
 }
 
 // Turn after turn of the clerk, each written, until nothing is owed for this part of the input.
@@ -107,18 +110,19 @@ fn write_out(
     work: &mut [u64; 1024],
     out: &mut [u8; 8192],
 ) -> Sent
-    requires { ⌜ (n ≤ 4096) × (hand .at ≤ n) ⌝ }
+    requires { ⌜ (n ≤ 4096) × (hand .at ≤ n) × (hand .used ≡ 0) ⌝ }
     ensures { λ r. ⌜ (0 < r .n → (r .n ≡ n) × (fed (r .line) (now (script .exit)) ≡ leaves hand (take n (now (input .entry))) (now (script .entry)))) ⌝ }
 {
     let mut held = clerk::turn(hand, input, n, script, tokens, nodes, keys, work, out);
     while held.used > 0 {
-        if !write_front(out, held.used) {
+        let left = write_front(out, held);
+        if left.used > 0 {
             return Sent {
                 line: Line::Nothing,
                 n: 0,
             };
         }
-        held = clerk::turn(held, input, n, script, tokens, nodes, keys, work, out);
+        held = clerk::turn(left, input, n, script, tokens, nodes, keys, work, out);
     }
     let line = held.line;
     Sent { line, n }

@@ -25,7 +25,7 @@ answer-requires : tie.Need-answer-requires
 answer-requires c κs = search needs
 
 returns-3 : tie.Need-returns-3
-returns-3 c = last-came (c .before .before .before .before .before .before .before .before .args .line) (c .before .before .before .before .before .before .before .before .args .n) (now (c .before .before .before .before .before .before .before .before .args .script)) (c .answer .last .1 .1 .1 .0) (c .answer .last .1 .1 .1 .1 .0) (c .answer .result) 0 (omega (arith, c .before .before .before .before .before .before .before .if1 .left)) (c .before .before .before .before .before .before .is-nothing .ensures) (c .before .before .before .before .before .if2 .left) (c .answer .ensures)
+returns-3 c = last-came (c .before .before .before .before .before .before .before .before .args .line) (c .before .before .before .before .before .before .before .before .args .n) (now (c .before .before .before .before .before .before .before .before .args .script)) (c .answer .last .1 .1 .1 .0) (c .answer .last .1 .1 .1 .1 .0) (c .answer .result) (omega (arith, c .before .before .before .before .before .before .before .if1 .left)) (c .before .before .before .before .before .before .is-nothing .ensures) (c .before .before .before .before .before .if2 .left) (c .answer .ensures)
 
 pub receive-spec : {M : Type 1} → statement M
 receive-spec =

@@ -1,21 +1,24 @@
 -- `desk::write_front` meets its contract. Each write takes some of what is left. Assumes nothing.
 use borrow.Author.Needs.{needs}
 use native.Mathlib.Omega.{arith}
-use Prim.Native.Nat.{_≤_, _-_}
+use mathlib.Core.Path.{_≡_, refl}
+use Prim.Native.Nat.{_≤_}
+use Rattle.clerk.specs.Owed.{laid}
+use Rattle.desk.proofs.SendingLaws.{crossed-again}
 use Rattle.desk.proofs.write_front.Statement.{statement}
 use Rattle.desk.proofs.write_front.Tie as tie
 
 abbrev Inv-loop : tie.InvT-loop
-Inv-loop out used done₀ t5 done = done ≤ used
+Inv-loop out to held₀ t6 held = (held ≡ laid held₀ (held₀ .next) (held .used)) × (held .used ≤ to)
 
 abbrev μ-loop : tie.MeasureT-loop
-μ-loop out used done₀ t5 done = used - done
+μ-loop out to held₀ t6 held = held .used
 
 loop-holds : tie.Need-loop-holds Inv-loop μ-loop
-loop-holds c = search needs
+loop-holds c = (refl, omega arith)
 
 write-some-requires : tie.Need-write-some-requires Inv-loop μ-loop
-write-some-requires c κs = (omega arith, omega arith)
+write-some-requires c κs = (c .before .before .loop .inv .1, c .before .before .before .before .pre)
 
 slice-aggregate-fail : tie.Need-slice-aggregate-fail Inv-loop μ-loop
 slice-aggregate-fail c = search needs
@@ -24,19 +27,16 @@ fail-requires : tie.Need-fail-requires Inv-loop μ-loop
 fail-requires c κs = search needs
 
 returns : tie.Need-returns Inv-loop μ-loop
-returns c = search needs
-
-add-done : tie.Need-add-done Inv-loop μ-loop
-add-done c = omega arith
+returns c = crossed-again (c .before .before .before .before .before .before .before .before .before .args .hand) (c .before .before .before .before .before .before .before .loop .held) (c .before .before .before .before .write-some .result) (c .before .before .before .before .before .before .before .loop .inv .0) (c .before .before .before .before .write-some .ensures .0)
 
 loop-less : tie.Need-loop-less Inv-loop μ-loop
-loop-less c = omega arith
+loop-less c = omega (arith, c .before .before .write-some .ensures .1, c .if2 .left)
 
 loop-again : tie.Need-loop-again Inv-loop μ-loop
-loop-again c = omega arith
+loop-again c = (crossed-again (c .before .before .before .before .before .before .before .args .hand) (c .before .before .before .before .before .loop .held) (c .before .before .write-some .result) (c .before .before .before .before .before .loop .inv .0) (c .before .before .write-some .ensures .0), omega (arith, c .before .before .write-some .ensures .1, c .before .before .before .before .before .loop .inv .1))
 
 returns-2 : tie.Need-returns-2 Inv-loop μ-loop
-returns-2 c = search needs
+returns-2 c = c .before .before .loop .inv .0
 
 pub write-front-spec : {M : Type 1} → statement M
 write-front-spec =
@@ -49,7 +49,6 @@ write-front-spec =
     slice-aggregate-fail
     fail-requires
     returns
-    add-done
     loop-less
     loop-again
     returns-2)
