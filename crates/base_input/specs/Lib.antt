@@ -5,3 +5,4 @@ pub mod Inputs
 pub mod NumberLaws
 pub mod InputLaws
 pub mod LetterLaws
+pub mod TestLaws

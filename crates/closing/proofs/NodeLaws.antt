@@ -23,6 +23,7 @@ use Rattle.standard.specs.Tree.{Leaf, True, False, PkK, RawPkH, After, Older, H
 use Rattle.standard.specs.Allowed.{within, allMultiAKeys, multiAThreshold}
 use Rattle.standard.specs.Types.{wrapperRule, combinationRule, AllTyped, ruled, typeOf}
 use Rattle.standard.specs.Table.{Node, nodeAt, Terminal, noTerminal, isTrue, isFalse, isPkK, isRawPkH, isAfter, isOlder, isHash, isWrapper, isCombination, isAndOr, isThresh, isMulti, isMultiA, terminalOf, takeTrees, datasAt, multiAOf, wrapTop, joinTop, andOrTop, threshTop, addTerminal, addNode}
+use Rattle.standard.specs.TableLaws.{datas-at-length}
 use Rattle.judge.specs.Nodes.{leafOf, castOf, combinationOf}
 use Rattle.encoding.specs.Form.{Shape, shapeOf, unusedAreZero, inRange, childCount, formedAs, keysNamed, wellFormed}
 use Rattle.encoding.specs.Values.{valueRefusalOf, valueRefusal}
@@ -71,10 +72,6 @@ kind-fits segwit k =
 passed-first : (b : Bool) (x y : ℕ) → 1 ≤ y → pick b x y ≡ 0 → (b ≡ true) × (x ≡ 0)
 passed-first true x y h e = (refl, e)
 passed-first false x y h e = let no : ⊥ = omega (arith, e) in absurd no
-
-datas-length : (material offsets : List ℕ) → length (datasAt material offsets) ≡ length offsets
-datas-length material [] = refl
-datas-length material (o ∷ os) = ap suc (datas-length material os)
 
 takes-first : (n : ℕ) (ts : Trees) (f : Trees → Trees → Option Trees) → n ≤ many ts → takeTrees n ts none f ≡ f (firstTrees n ts) (restTrees n ts)
 takes-first zero ts f h = refl
@@ -152,7 +149,7 @@ module _ (segwit : Bool) (material keys table : List ℕ) (n : Node) (m : ℕ) w
       let least = leb-true 1 (n .number) (left-true (leb 1 (n .number)) _ (left-true (multiAThreshold (n .number)) _ tests)) in
       let most = leb-true (n .number) (n .count) (left-true (leb (n .number) (n .count)) _ (right-true (multiAThreshold (n .number)) _ tests)) in
       let l : length (keysNamed n keys) ≡ n .count = length-take-le (n .count) (drop (n .place) keys) (omega (arith, length-drop (n .place) keys)) in
-      omega (arith, datas-length material (keysNamed n keys), l, least, most)
+      omega (arith, datas-at-length material (keysNamed n keys), l, least, most)
 
   -- thresh has a child
   has-a-child : valueRefusalOf segwit material keys isThresh n ≡ 0 → 1 ≤ n .count

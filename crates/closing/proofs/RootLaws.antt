@@ -14,13 +14,13 @@ use Rattle.tables.specs.Choose.{pick}
 use Rattle.tables.specs.Tables.{newest}
 use Rattle.tables.proofs.NewestLaws.{newest-length, newest-drop}
 use Rattle.standard.specs.Tree.{Tree, Trees, nil, _⊳_, many, size, sizes}
+use Rattle.standard.specs.TreeLaws.{size-some}
 use Rattle.standard.specs.Types.{all, andThen, typeOf, typesOf}
 use Rattle.standard.specs.Table.{Node, nodeAt}
 use Rattle.judge.specs.Nodes.{heldType, topNode}
 use Rattle.judge.specs.NodeTable.{Subtrees}
 use Rattle.judge.specs.NodeTableLaws.{top-read}
 use Rattle.encoding.specs.Form.{sizesOfFirst}
-use Rattle.encoding.proofs.Passed.{size-of-children}
 use Rattle.encoding.proofs.Stands.{Stands, empty, more, stands-length, stands-under}
 use Rattle.closing.specs.Held.{RootsAt, topType, under, fitsFrom, typesHeld}
 
@@ -35,9 +35,6 @@ restTrees zero ts = ts
 restTrees (suc k) nil = nil
 restTrees (suc k) (t ⊳ ts) = restTrees k ts
 
-pub some-size : (t : Tree) → 1 ≤ size t
-some-size t = omega (arith, size-of-children t)
-
 -- Where the roots are
 
 module _ (segwit : Bool) (material keys : List ℕ) where
@@ -51,7 +48,7 @@ module _ (segwit : Bool) (material keys : List ℕ) where
   stands-roots table m nil s = sym (newest-length (nodeAt table) m) ∙ stands-length segwit material keys s
   stands-roots table m (t ⊳ ts) s =
       let l : m ≡ size t + sizes ts = sym (newest-length (nodeAt table) m) ∙ stands-length segwit material keys s in
-      let some : 1 ≤ m = omega (arith, l, some-size t) in
+      let some : 1 ≤ m = omega (arith, l, size-some t) in
       let top : topNode (newest (nodeAt table) m) ≡ nodeAt table (m - 1) = top-read table m some in
       let p = top-passed s t ts refl in
       let z : size t + 0 ≡ size t = omega arith in
@@ -83,7 +80,7 @@ module _ (segwit : Bool) (table : List ℕ) where
       ap (λ (b : Bool). pick b false (fitsFrom table k (under table at) m s)) (lt-ltb at 1 (omega (arith, r)))
       ∙ sym (ap (λ (b : Bool). b && eqb s (m - at + 0 + 1)) (lt-leb (suc k) 0 (omega arith)))
   fits-from (suc k) at m s (t ⊳ ts) r h =
-      let some : 1 ≤ at = omega (arith, r .0, some-size t) in
+      let some : 1 ≤ at = omega (arith, r .0, size-some t) in
       let sum : m - (at - size t) + sizesOfFirst k ts + 1 ≡ m - at + (size t + sizesOfFirst k ts) + 1 = sums m at (size t) (sizesOfFirst k ts) (r .0) h in
       ap (λ (b : Bool). pick b false (fitsFrom table k (under table at) m s)) (le-ltb at 1 some)
       ∙ ap (λ (j : ℕ). fitsFrom table k (at - j) m s) (r .1)
@@ -107,8 +104,8 @@ module _ (segwit : Bool) (table : List ℕ) where
   subtrees-there zero m ts r h = tt
   subtrees-there (suc k) m nil r h = let no : ⊥ = omega arith in absurd no
   subtrees-there (suc k) m (t ⊳ ts) r h = (
-    omega (arith, r .0, some-size t),
-    omega (arith, r .1, some-size t),
+    omega (arith, r .0, size-some t),
+    omega (arith, r .1, size-some t),
     omega (arith, r .0, r .1),
     subst (λ (j : ℕ). Subtrees k (m - j) table) (sym (r .1)) (subtrees-there k (m - size t) ts (r .3) (omega arith)),
   )

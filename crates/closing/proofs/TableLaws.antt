@@ -14,6 +14,7 @@ use Rattle.correctness.specs.declared.Typed.the-variants.{Is}
 use Rattle.tables.specs.Choose.{pick}
 use Rattle.tables.specs.Tables.{newest}
 use Rattle.standard.specs.Tree.{Tree, Trees, nil, _⊳_}
+use Rattle.standard.specs.TreeLaws.{size-some}
 use Rattle.standard.specs.Types.{typeOf}
 use Rattle.standard.specs.Table.{nodeCells, nodeAt}
 use Rattle.judge.specs.NodeTable.{sizeAt}
@@ -25,7 +26,7 @@ use Rattle.encoding.proofs.Stands.{Stands, empty, more}
 use Rattle.closing.specs.declared.Verdict.{Verdict}
 use Rattle.closing.specs.Verdicts.{verdict, verdictOn}
 use Rattle.closing.specs.Held.{RootsAt, Rooted, topType, checkHeld, baseTold, oddTold, sizeTold, rootHeld}
-use Rattle.closing.proofs.RootLaws.{some-size, stands-roots}
+use Rattle.closing.proofs.RootLaws.{stands-roots}
 use Rattle.closing.proofs.NodeLaws.{verdictFor, check-told, passes-at-0}
 
 -- One root
@@ -51,12 +52,12 @@ module _ (segwit : Bool) (table : List ℕ) where
   root-told nil r = ap (λ (b : Bool). pick b (verdict 21 0) (sizeTold table)) (lt-ltb n 1 (omega (arith, r)))
   root-told (t ⊳ nil) r =
       let whole : sizeAt table (n - 1) ≡ n = omega (arith, r .0, r .1, r .3) in
-      ap (λ (b : Bool). pick b (verdict 21 0) (sizeTold table)) (le-ltb n 1 (omega (arith, r .0, some-size t)))
+      ap (λ (b : Bool). pick b (verdict 21 0) (sizeTold table)) (le-ltb n 1 (omega (arith, r .0, size-some t)))
       ∙ ap (λ (b : Bool). pick b (oddTold table) (verdict 21 0)) (eq-eqb (sizeAt table (n - 1)) n whole)
       ∙ odd-told t (r .2) (eqb odd 0)
   root-told (t ⊳ (u ⊳ ts)) r =
-      let not-whole : sizeAt table (n - 1) ≡ n → ⊥ = λ e. omega (arith, e, r .0, r .1, r .3 .0, some-size u) in
-      ap (λ (b : Bool). pick b (verdict 21 0) (sizeTold table)) (le-ltb n 1 (omega (arith, r .0, some-size t)))
+      let not-whole : sizeAt table (n - 1) ≡ n → ⊥ = λ e. omega (arith, e, r .0, r .1, r .3 .0, size-some u) in
+      ap (λ (b : Bool). pick b (verdict 21 0) (sizeTold table)) (le-ltb n 1 (omega (arith, r .0, size-some t)))
       ∙ ap (λ (b : Bool). pick b (oddTold table) (verdict 21 0)) (ne-eqb (sizeAt table (n - 1)) n not-whole)
 
 -- The nodes

@@ -21,6 +21,7 @@ use Rattle.standard.specs.Tree.{Trees, nil, _⊳_}
 use Rattle.standard.specs.Table.{Node, nodeCells, nodeAt}
 use Rattle.judge.specs.Nodes.{heldType, leafOf, castOf, combinationOf}
 use Rattle.judge.specs.NodeTable.{sizeAt, Subtrees}
+use Rattle.judge.specs.NodeTableLaws.{one-more, next-there}
 use Rattle.encoding.specs.Form.{Shape, unusedAreZero, inRange, childCount}
 use Rattle.encoding.specs.Checks.{holdsType}
 use Rattle.encoding.specs.Encoding.{nodeCount}
@@ -180,17 +181,11 @@ module _ (t : List ℕ) (m n : ℕ) where
       }
 
   module _ {earlier : Correctness} {at i : ℕ} (h : Threshing t m n earlier at i) where
-    one-more : i < n → n - i ≡ suc (n - (i + 1))
-    one-more more = omega arith
-
-    pub child-there : i < n → (1 ≤ at) × (1 ≤ sizeAt t (at - 1)) × (sizeAt t (at - 1) ≤ at) × Subtrees (n - (i + 1)) (at - sizeAt t (at - 1)) t
-    child-there more = subst (λ (k : ℕ). Subtrees k at t) (one-more more) (h .waiting)
-
     module _ {x : Correctness} {answer : Typed} (more : i < n) (x-is : x ≡ heldType (nodeAt t (at - 1))) (judged : answer ≡ thresholdChild i earlier x) where
       child-judged : onward answer (λ next. thresholdFrom (i + 1) next (typesHeld t (n - (i + 1)) (under t at))) ≡ threshold (typesHeld t n m)
       child-judged =
           ap (λ (a : Typed). onward a (λ next. thresholdFrom (i + 1) next (typesHeld t (n - (i + 1)) (under t at)))) (judged ∙ ap (thresholdChild i earlier) x-is)
-          ∙ sym (ap (λ (k : ℕ). thresholdFrom i earlier (typesHeld t k at)) (one-more more))
+          ∙ sym (ap (λ (k : ℕ). thresholdFrom i earlier (typesHeld t k at)) (one-more n i more))
           ∙ h .same
 
       pub child-refused : {e : ErrorKind} → answer ≡ Not e → answer ≡ threshold (typesHeld t n m)
@@ -202,7 +197,7 @@ module _ (t : List ℕ) (m n : ℕ) where
           record {
             counted = omega arith;
             inside = omega arith;
-            waiting = subst (λ (k : ℕ). Subtrees (n - (i + 1)) (at - k) t) (sym q) (child-there more .3);
+            waiting = subst (λ (k : ℕ). Subtrees (n - (i + 1)) (at - k) t) (sym q) (next-there t n more (h .waiting) .3);
             same =
                 ap (λ (k : ℕ). thresholdFrom (i + 1) next (typesHeld t (n - (i + 1)) (at - k))) q
                 ∙ sym (ap (λ (a : Typed). onward a (λ c. thresholdFrom (i + 1) c (typesHeld t (n - (i + 1)) (under t at)))) p)

@@ -125,12 +125,12 @@ and-v-sound x y s =
     and-v-by-base (isV (x .base) && not (isW (y .base))) _ (x .input) (y .input) (y .dissatisfiable) (y .unit) (y .base)
     (λ h. not-true (isW (y .base)) (right-true (isV (x .base)) _ h)) s
 
+one-or-any-not-zero : (t : Bool) → isZero (pick t One Any) ≡ false
+one-or-any-not-zero true = refl
+one-or-any-not-zero false = refl
+
 either-not-zero : (i j : Input) → isZero (eitherInput i j) ≡ false
-either-not-zero i j = by-test (isZero i && isZero j)
-  where
-    by-test : (t : Bool) → isZero (pick t One Any) ≡ false
-    by-test true = refl
-    by-test false = refl
+either-not-zero i j = one-or-any-not-zero (isZero i && isZero j)
 
 or-i-by-bases : (i j : Input) (d e u v : Bool) (a b : Base) → Sound (made a i d u) → Sound (made b j e v) → SoundAnswer (orI (made a i d u) (made b j e v))
 unfolding orI
@@ -153,11 +153,7 @@ pub or-i-sound : (x z : Correctness) → Sound x → Sound z → SoundAnswer (or
 or-i-sound x z s t = or-i-by-bases (x .input) (z .input) (x .dissatisfiable) (z .dissatisfiable) (x .unit) (z .unit) (x .base) (z .base) s t
 
 and-or-not-zero : (i j k : Input) → isZero j ≡ false → isZero (andOrInput i j k) ≡ false
-and-or-not-zero i j k h = rw h (by-test (isZero i && (takesOne j && takesOne k)))
-  where
-    by-test : (t : Bool) → isZero (pick t One Any) ≡ false
-    by-test true = refl
-    by-test false = refl
+and-or-not-zero i j k h = rw h (one-or-any-not-zero (isZero i && (takesOne j && takesOne k)))
 
 -- and_or of a first child that passed its tests
 and-or-by-bases : (t : Bool) (f : ErrorKind) (i j k : Input) (d e u v : Bool) (a b : Base) → (t ≡ true → equalBKV a b ≡ true) → Sound (made a j d u) → Sound (made b k e v) → SoundAnswer (check t f (is a (andOrInput i j k) e (u && v)))

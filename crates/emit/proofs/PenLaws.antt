@@ -5,15 +5,17 @@ use mathlib.Core.Bool.{Bool, true, false, true≢false}
 use mathlib.Core.List.{List, [], _∷_, _++_, append-assoc, append-nil}
 use Prim.Native.Nat.{ℕ, _+_, _-_, _≤_}
 use native.Mathlib.Omega.{arith}
-use lib.Dec.{eqb, leb}
+use lib.Dec.{eqb}
 use lib.ListN.{length, set, drop, length-append, length-drop}
 use lib.Seq.{take-append-seam, drop-append-add, drop-drop, append-snoc, set-append-seam}
 use borrow.Author.Tests.{eqb-true}
 use Rattle.tables.specs.Choose.{pick}
 use Rattle.tables.specs.Tables.{flat, putAt}
+use Rattle.tables.proofs.BoolLaws.{picked-both}
 use Rattle.tables.proofs.PutLaws.{put-parts}
 use Rattle.lex.specs.Token.{VERIFY, Lexeme, op, num, push}
-use Rattle.spelling.specs.Spell.{opcodeByte, hasFused, fusedByte, pushBytes, numberBytes, instructionBytes, verifiedBytes, isVerify, isFusible, fuses, spelling, spell, digits}
+use Rattle.spelling.specs.Spell.{opcodeByte, hasFused, fusedByte, instructionBytes, verifiedBytes, isVerify, isFusible, fuses, spelling, spell}
+use Rattle.spelling.proofs.SpellingLexes.{number-some}
 use Rattle.emit.specs.declared.Pen.{Pen}
 use Rattle.emit.specs.Emission.{pen, fusing, inked, penned, Coded, Room, inkedAll, pennedAll, RoomForAll}
 
@@ -97,10 +99,6 @@ verify-code : (code : ℕ) → eqb code VERIFY ≡ true → hasFused code ≡ fa
 unfolding hasFused
 verify-code code h = rw (eqb-true code VERIFY h) refl
 
-both-true : (a b : Bool) → pick a b false ≡ true → (a ≡ true) × (b ≡ true)
-both-true true b h = (refl, h)
-both-true false b h = absurd (true≢false (sym h))
-
 -- The output
 
 pub record Wrote (before all out : List ℕ) (p : Pen) (rest : List Lexeme) : Type 0 where
@@ -151,15 +149,6 @@ neither : (b : Bool) → pick b false false ≡ false
 neither true = refl
 neither false = refl
 
-number-some : (n : ℕ) → 1 ≤ length (numberBytes n)
-unfolding numberBytes
-number-some n = by (eqb n 0) (leb n 16)
-  where
-    by : (a b : Bool) → 1 ≤ length (pick a (0x00 ∷ []) (pick b ((0x50 + n) ∷ []) (pushBytes (digits n))))
-    by true b = omega arith
-    by false true = omega arith
-    by false false = omega arith
-
 module _ {before all out : List ℕ} {p : Pen} where
   -- a lexeme written by itself
   written-apart : (l : Lexeme) (rest : List Lexeme) → Wrote before all out p (l ∷ rest) → fuses (op (p .last)) l ≡ false
@@ -184,7 +173,7 @@ module _ {before all out : List ℕ} {p : Pen} where
   written-fused code rest w n = by (w .leads)
     where
       by : Leads all (w .bytes) (p .last) (op code ∷ rest) → (1 ≤ p .at) × Wrote before all (putAt out (p .at - 1) (fusedByte (p .last) ∷ [])) (pen (p .at) code) rest
-      by (settled e f) = absurd (true≢false (sym (both-true (hasFused (p .last)) (eqb code VERIFY) n .0) ∙ e))
+      by (settled e f) = absurd (true≢false (sym (picked-both (hasFused (p .last)) (eqb code VERIFY) n .0) ∙ e))
       by (unsettled front e b f) =
           let a : length (front ++ (opcodeByte (p .last) ∷ [])) ≡ length front + 1 = length-append front (opcodeByte (p .last) ∷ []) in
           let d : length (front ++ (fusedByte (p .last) ∷ [])) ≡ length front + 1 = length-append front (fusedByte (p .last) ∷ []) in
@@ -198,8 +187,8 @@ module _ {before all out : List ℕ} {p : Pen} where
                   ∙ put-last before front (opcodeByte (p .last)) (fusedByte (p .last));
               at-is = omega arith;
               leads =
-                  settled (verify-code code (both-true (hasFused (p .last)) (eqb code VERIFY) n .1))
-                  (f ∙ ap (λ (x : List ℕ). front ++ x) (verified (op (p .last)) (op code) rest e (both-true (hasFused (p .last)) (eqb code VERIFY) n .1)) ∙ sym (append-snoc front (fusedByte (p .last)) (spell rest)));
+                  settled (verify-code code (picked-both (hasFused (p .last)) (eqb code VERIFY) n .1))
+                  (f ∙ ap (λ (x : List ℕ). front ++ x) (verified (op (p .last)) (op code) rest e (picked-both (hasFused (p .last)) (eqb code VERIFY) n .1)) ∙ sym (append-snoc front (fusedByte (p .last)) (spell rest)));
               fits = w .fits;
             },
           )

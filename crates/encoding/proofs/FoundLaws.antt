@@ -8,8 +8,8 @@ use borrow.Author.Tests.{eqb-true}
 use lib.Dec.{eqb}
 use lib.ListN.{length}
 use Rattle.base_input.specs.declared.Base.the-variants as base
-use Rattle.base_input.specs.declared.Base.{Base}
 use Rattle.base_input.specs.Tests.{isB}
+use Rattle.base_input.specs.TestLaws.{only-B}
 use Rattle.correctness.specs.declared.Typed.{Typed}
 use Rattle.correctness.specs.declared.Typed.the-variants.{Is, Not}
 use Rattle.tables.specs.Choose.{pick}
@@ -35,12 +35,6 @@ isFound (refused number reason) = 0
 
 not-refused : {A : Type 0} (number reason : ℕ) (t : Tree) → refused number reason ≡ found t → A
 not-refused number reason t e = let z : _≡_ {A = ℕ} 0 1 = ap isFound e in let no : ⊥ = omega arith in absurd no
-
-is-b : (b : Base) → isB b ≡ true → b ≡ base.B
-is-b base.B e = refl
-is-b base.K e = let z : _≡_ {A = ℕ} 0 1 = cc in let no : ⊥ = omega arith in absurd no
-is-b base.«V» e = let z : _≡_ {A = ℕ} 0 1 = cc in let no : ⊥ = omega arith in absurd no
-is-b base.W e = let z : _≡_ {A = ℕ} 0 1 = cc in let no : ⊥ = omega arith in absurd no
 
 module _ (segwit : Bool) (nodes keys material : List ℕ) where
   abbrev standing : ℕ → Trees → Type 0
@@ -76,7 +70,7 @@ module _ (segwit : Bool) (nodes keys material : List ℕ) where
           by false h g = not-refused _ _ t g
           by true h g =
               let same : u ≡ t = cc in
-              subst (λ (x : Tree). Holding segwit nodes keys material x) same (record { stands = s; whole = w; well-typed = (c, o, is-b (c .base) h) })
+              subst (λ (x : Tree). Holding segwit nodes keys material x) same (record { stands = s; whole = w; well-typed = (c, o, only-B (c .base) h) })
 
       by-odd : (u : Tree) → standing (nodeCount nodes) (u ⊳ nil) → (b : Bool) → eqb odd 0 ≡ b → pick b (topChecked u (typeOf segwit u)) (refused 21 0) ≡ found t → Holding segwit nodes keys material t
       by-odd u s true w f = by-top u s (eqb-true odd 0 w) (typeOf segwit u) refl f

@@ -15,9 +15,9 @@ use Rattle.correctness.specs.declared.Typed.{Typed}
 use Rattle.correctness.specs.declared.Typed.the-variants.{Is, Not}
 use Rattle.lex.specs.Token.{Data}
 use Rattle.tables.specs.Choose.{pick}
+use Rattle.tables.proofs.BoolLaws.{left-true, right-true}
 use Rattle.standard.specs.Tree.{Wrapper, Combination, Tree, Trees, leaf, wrap, join, andOr, thresh, nil, _⊳_, _⊕_, many, size, sizes}
 use Rattle.standard.specs.Types.{typeOf}
-use Rattle.standard.specs.RuleLaws.{and-left, and-right}
 use Rattle.standard.specs.Table.{Node, Terminal, noTerminal, isTrue, isFalse, isPkK, isRawPkH, isAfter, isOlder, isHash, isWrapper, isCombination, isAndOr, isThresh, isMulti, isMultiA, terminalOf, takeTrees, datasAt, multiAOf, wrapTop, joinTop, andOrTop, threshTop, addTerminal, addNode}
 use Rattle.judge.specs.Nodes.{heldType}
 use Rattle.forest.specs.Forest.{children}
@@ -131,12 +131,12 @@ pub record Passed (segwit : Bool) (material keys : List ℕ) (n : Node) (ts : Tr
 -- the stored type is the one worked out
 held-type : (n : Node) (c : Correctness) → holdsType n c ≡ true → heldType n ≡ c
 held-type n c h =
-    let rest-one = and-right (eqb (n .base) (baseNumber (c .base))) _ h in
-    let rest-two = and-right (eqb (n .input) (inputNumber (c .input))) _ rest-one in
-    let b : n .base ≡ baseNumber (c .base) = eqb-true (n .base) (baseNumber (c .base)) (and-left (eqb (n .base) (baseNumber (c .base))) _ h) in
-    let i : n .input ≡ inputNumber (c .input) = eqb-true (n .input) (inputNumber (c .input)) (and-left (eqb (n .input) (inputNumber (c .input))) _ rest-one) in
-    let d : n .d ≡ boolNumber (c .dissatisfiable) = eqb-true (n .d) (boolNumber (c .dissatisfiable)) (and-left (eqb (n .d) (boolNumber (c .dissatisfiable))) _ rest-two) in
-    let u : n .u ≡ boolNumber (c .unit) = eqb-true (n .u) (boolNumber (c .unit)) (and-right (eqb (n .d) (boolNumber (c .dissatisfiable))) _ rest-two) in
+    let rest-one = right-true (eqb (n .base) (baseNumber (c .base))) _ h in
+    let rest-two = right-true (eqb (n .input) (inputNumber (c .input))) _ rest-one in
+    let b : n .base ≡ baseNumber (c .base) = eqb-true (n .base) (baseNumber (c .base)) (left-true (eqb (n .base) (baseNumber (c .base))) _ h) in
+    let i : n .input ≡ inputNumber (c .input) = eqb-true (n .input) (inputNumber (c .input)) (left-true (eqb (n .input) (inputNumber (c .input))) _ rest-one) in
+    let d : n .d ≡ boolNumber (c .dissatisfiable) = eqb-true (n .d) (boolNumber (c .dissatisfiable)) (left-true (eqb (n .d) (boolNumber (c .dissatisfiable))) _ rest-two) in
+    let u : n .u ≡ boolNumber (c .unit) = eqb-true (n .u) (boolNumber (c .unit)) (right-true (eqb (n .d) (boolNumber (c .dissatisfiable))) _ rest-two) in
     rw (b, i, d, u) (held-back c)
 
 -- a refusal is no stack of trees
@@ -191,8 +191,8 @@ module _ (segwit : Bool) (material keys : List ℕ) where
   right-size : (o : Option Shape) (n : Node) (ts us : Trees) (t : Tree) → formedAs (length material) keys o n ts ≡ true → TakesAs o n (some (t ⊳ us)) → ts ≡ _⊕_ (children t) us → n .size ≡ size t
   right-size none n ts us t f k m = absurd (true≢false (sym f))
   right-size (some s) n ts us t f k m =
-      let r = and-right (inRange (length material) keys s n) (rightSize s n ts) (and-right (unusedAreZero s n) _ f) in
-      let e : n .size ≡ sizesOfFirst (childCount s n) ts + 1 = eqb-true (n .size) (sizesOfFirst (childCount s n) ts + 1) (and-right (leb (childCount s n) (many ts)) _ r) in
+      let r = right-true (inRange (length material) keys s n) (rightSize s n ts) (right-true (unusedAreZero s n) _ f) in
+      let e : n .size ≡ sizesOfFirst (childCount s n) ts + 1 = eqb-true (n .size) (sizesOfFirst (childCount s n) ts + 1) (right-true (leb (childCount s n) (many ts)) _ r) in
       e ∙ ap (λ (x : Trees). sizesOfFirst (childCount s n) x + 1) m
       ∙ ap (λ (j : ℕ). sizesOfFirst j (_⊕_ (children t) us) + 1) (sym k)
       ∙ ap (λ (j : ℕ). j + 1) (first-sizes (children t) us)

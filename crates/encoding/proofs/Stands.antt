@@ -7,9 +7,9 @@ use Prim.Native.Nat.{ℕ, suc, _+_}
 use native.Mathlib.Omega.{arith}
 use lib.ListN.{length, drop}
 use Rattle.standard.specs.Tree.{Tree, Trees, nil, _⊳_, _⊕_, many, size, sizes}
+use Rattle.standard.specs.TreeLaws.{sizes-append}
 use Rattle.standard.specs.Table.{Node}
 use Rattle.forest.specs.Forest.{children}
-use Rattle.forest.specs.PreorderLaws.{sizes-append}
 use Rattle.encoding.proofs.Passed.{Passed, made-of, size-of-children, append-trees}
 
 module _ (segwit : Bool) (material keys : List ℕ) where

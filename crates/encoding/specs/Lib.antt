@@ -5,3 +5,5 @@ pub mod Values
 pub mod Checks
 pub mod Encoding
 pub mod Examples
+-- Theorems
+pub mod FormLaws

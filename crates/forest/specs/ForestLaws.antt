@@ -93,10 +93,7 @@ module _ (segwit : Bool) where
       pub agrees : {made : Making} → made ≡ making (typeOf segwit t) (parent (kindOf t) (numberOf t) (countOf t) (size t)) → Agrees segwit nodes keys done t made
       agrees e = subst (Agrees segwit nodes keys done t) (sym e) (rule-agrees (typeOf segwit t) refl)
 
-  -- the values of a node that are tested before its type
-
-  pub leaf-passes : (l : Leaf) → allowedLeaf segwit l ≡ true → judge segwit (leaf l) ≡ passes
-  leaf-passes l e = ap (λ (b : Bool). pick b passes (fails (leafRefusal segwit l) 0)) e
+  -- the values of a node that are tested before its type; a leaf whose values are allowed passes: `leaf-passes` of standard/specs/Complete.antt
 
   pub leaf-refused : (l : Leaf) → allowedLeaf segwit l ≡ false → judge segwit (leaf l) ≡ fails (leafRefusal segwit l) 0
   leaf-refused l e = ap (λ (b : Bool). pick b passes (fails (leafRefusal segwit l) 0)) e

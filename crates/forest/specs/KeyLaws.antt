@@ -2,21 +2,10 @@
 use mathlib.Core.Path.{_≡_, refl, sym, ap, _∙_}
 use mathlib.Core.List.{List, _++_, append-assoc, append-nil}
 use Prim.Native.Nat.{ℕ}
-use lib.ListN.{length}
-use Rattle.standard.specs.Tree.{Leaf, Tree, Trees, leaf, wrap, join, andOr, thresh, nil, _⊳_, _⊕_, leafKeys}
-use Rattle.standard.specs.Table.{leafOffsets, keysOf, keyTable}
-use Rattle.standard.specs.TableLaws.{keys-length}
+use Rattle.standard.specs.Tree.{Tree, Trees, leaf, wrap, join, andOr, thresh, _⊳_, _⊕_}
+use Rattle.standard.specs.Table.{keysOf, keyTable}
+use Rattle.standard.specs.TableLaws.{key-table-append}
 use Rattle.forest.specs.Forest.{children, ownKeys}
-
--- a leaf's keys, of the law for every tree
-pub leaf-keys-length : (l : Leaf) → length (leafOffsets l) ≡ leafKeys l
-leaf-keys-length l = keys-length (leaf l)
-
--- A new tree's keys
-
-pub key-table-append : (ts more : Trees) → keyTable (_⊕_ ts more) ≡ keyTable more ++ keyTable ts
-key-table-append nil more = sym (append-nil (keyTable more))
-key-table-append (t ⊳ ts) more = ap (λ (l : List ℕ). l ++ keysOf t) (key-table-append ts more) ∙ append-assoc (keyTable more) (keyTable ts) (keysOf t)
 
 own-keys-last : (t : Tree) → keysOf t ≡ keyTable (children t) ++ ownKeys t
 own-keys-last (leaf l) = refl

@@ -16,6 +16,7 @@ use Rattle.correctness.specs.declared.Typed.{Typed}
 use Rattle.correctness.specs.declared.Typed.the-variants.{Is, Not}
 use Rattle.correctness.specs.Rules.{made}
 use Rattle.standard.specs.Tree.{Leaf, True, False, PkK, RawPkH, After, Older, HashLock, Multi, MultiA, Tree, Trees, leaf, wrap, join, andOr, thresh, nil, _⊳_, _⊕_, many, size, sizes, keyCount, keyCounts}
+use Rattle.standard.specs.TreeLaws.{keys-append}
 use Rattle.standard.specs.Types.{typeOf}
 use Rattle.standard.specs.Table.{Node, node, rootNode, nodesOf, nodesFrom}
 use Rattle.judge.specs.Nodes.{heldType, topNode, underTop}
@@ -61,14 +62,6 @@ root-type segwit t before {c} e =
     ∙ held-back c
 
 -- The preorder of several trees
-
-pub keys-append : (ts more : Trees) → keyCounts (_⊕_ ts more) ≡ keyCounts ts + keyCounts more
-keys-append nil more = omega arith
-keys-append (t ⊳ ts) more = omega (arith, keys-append ts more)
-
-pub sizes-append : (ts more : Trees) → sizes (_⊕_ ts more) ≡ sizes ts + sizes more
-sizes-append nil more = omega arith
-sizes-append (t ⊳ ts) more = omega (arith, sizes-append ts more)
 
 module _ (segwit : Bool) where
   pub preorders-append : (before : ℕ) (ts more : Trees) → preorders segwit before (_⊕_ ts more) ≡ preorders segwit (before + keyCounts more) ts ++ preorders segwit before more

@@ -8,8 +8,9 @@ use native.Mathlib.Omega.{arith}
 use lib.ListN.{length, getD}
 use Rattle.tables.specs.Tables.{flat, newest}
 use Rattle.tables.proofs.NewestLaws.{newest-length}
-use Rattle.standard.specs.Tree.{Tree, Trees, leaf, wrap, join, andOr, thresh, nil, _⊳_, _⊕_, many, size, sizes, keyCounts}
+use Rattle.standard.specs.Tree.{Tree, Trees, nil, _⊳_, _⊕_, many, size, sizes, keyCounts}
 use Rattle.standard.specs.Table.{Node, cells, rootNode, nodesFrom, nodeTable}
+use Rattle.standard.specs.TreeLaws.{size-some}
 use Rattle.standard.specs.TableLaws.{node-table-length}
 use Rattle.judge.specs.Nodes.{topNode, underTop}
 use Rattle.judge.specs.NodeTable.{nodeAt, sizeAt, Subtrees, Finished}
@@ -42,19 +43,12 @@ module _ (segwit : Bool) where
 
 -- What a reduction requires
 
-size-least : (t : Tree) → 1 ≤ size t
-size-least (leaf l) = omega arith
-size-least (wrap w x) = omega arith
-size-least (join c x y) = omega arith
-size-least (andOr x y z) = omega arith
-size-least (thresh k x xs) = omega arith
-
 subtrees : (segwit : Bool) (k m : ℕ) (table : List ℕ) (done : Trees) → newest (nodeAt table) m ≡ preorders segwit 0 done → k ≤ many done → Subtrees k m table
 subtrees segwit zero m table done e h = tt
 subtrees segwit (suc k) m table nil e h = let z : ⊥ = omega arith in absurd z
 subtrees segwit (suc k) m table (t ⊳ done) e h =
     let counted : m ≡ size t + sizes done = sym (newest-length (nodeAt table) m) ∙ ap length e ∙ preorders-length segwit 0 (t ⊳ done) in
-    let least : 1 ≤ size t = size-least t in
+    let least : 1 ≤ size t = size-some t in
     let some : 1 ≤ m = omega arith in
     let size-is : sizeAt table (m - 1) ≡ size t = ap (λ (n : Node). n .size) (sym (top-read table m some)) ∙ ap (λ (ns : List Node). topNode ns .size) e ∙ top-size segwit 0 t done in
     let rest : newest (nodeAt table) (m - sizeAt table (m - 1)) ≡ preorders segwit 0 done = sym (under-read table m some refl) ∙ ap underTop e ∙ under-root segwit 0 t done in

@@ -1,7 +1,7 @@
 -- Every code is at most 32, every number below 2^31, every refusal's number between 2 and 7: once for one instruction. Assumes nothing.
 -- Why: the opcode table is computed over all bytes, and a number's last byte is below 128.
 use mathlib.Core.Path.{_≡_, refl, sym, ap, subst, _∙_}
-use mathlib.Core.Bool.{Bool, true, false, true≢false}
+use mathlib.Core.Bool.{Bool, true, false}
 use mathlib.Core.List.{List, [], _∷_}
 use Prim.Native.Nat.{ℕ, zero, suc, _+_, _-_, _*_, _≤_, _<_}
 use native.Mathlib.Omega.{arith}
@@ -10,6 +10,7 @@ use lib.Dec.{eqb, leb, ltb}
 use lib.ListN.{length, take, drop, getD, length-drop, List·getD-eq-default}
 use lib.Seq.{getD-drop, getD-take, length-take-le}
 use Rattle.tables.specs.Choose.{pick}
+use Rattle.tables.proofs.BoolLaws.{picked-both}
 use Rattle.instruction.specs.declared.Op.{Op}
 use Rattle.instruction.specs.declared.Op.the-variants.{Push, Sized, Num, One, Fused, Verify, Unlisted}
 use Rattle.instruction.specs.declared.Number.{Number}
@@ -44,16 +45,12 @@ abbrev pub allBelow : ℕ → (ℕ → Bool) → Bool
 allBelow zero test = true
 allBelow (suc n) test = pick (test n) (allBelow n test) false
 
-both : (a b : Bool) → pick a b false ≡ true → (a ≡ true) × (b ≡ true)
-both true b e = (refl, e)
-both false b e = absurd (true≢false (sym e))
-
 pub below : (n : ℕ) (test : ℕ → Bool) → allBelow n test ≡ true → (b : ℕ) → b < n → test b ≡ true
 below zero test e b h = absurd (omega arith)
-below (suc n) test e b h = split (λ l. below n test (both (test n) (allBelow n test) e .1) b l) (eqb b n) refl
+below (suc n) test e b h = split (λ l. below n test (picked-both (test n) (allBelow n test) e .1) b l) (eqb b n) refl
   where
     split : (b < n → test b ≡ true) → (c : Bool) → eqb b n ≡ c → test b ≡ true
-    split rest true q = ap test (eqb-true b n q) ∙ both (test n) (allBelow n test) e .0
+    split rest true q = ap test (eqb-true b n q) ∙ picked-both (test n) (allBelow n test) e .0
     split rest false q = rest (let o : b ≡ n → ⊥ = eqb-false b n q in omega arith)
 
 -- ---- numbers

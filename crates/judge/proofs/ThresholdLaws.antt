@@ -1,7 +1,7 @@
 -- The loop over a thresh's children: before child i, the children from there on, with the type and size of those before it, make what all of them make. Assumes nothing.
 use mathlib.Core.Path.{_≡_, refl, sym, ap, subst, _∙_}
 use mathlib.Core.List.{List}
-use Prim.Native.Nat.{ℕ, zero, suc, _+_, _*_, _-_, _≤_, _<_}
+use Prim.Native.Nat.{ℕ, zero, _+_, _*_, _-_, _≤_, _<_}
 use native.Mathlib.Omega.{arith}
 use lib.ListN.{length}
 use Rattle.tables.specs.Tables.{newest}
@@ -14,7 +14,7 @@ use Rattle.correctness.specs.Rules.{noChildren, thresholdChild}
 use Rattle.standard.specs.Table.{Node, node, threshKind}
 use Rattle.judge.specs.Nodes.{heldType, topNode, underTop, Making, makes, refuses, making, parent, reduceChildren, reduceMany}
 use Rattle.judge.specs.NodeTable.{nodeAt, sizeAt, Subtrees, Finished}
-use Rattle.judge.specs.NodeTableLaws.{top-read, under-read}
+use Rattle.judge.specs.NodeTableLaws.{top-read, under-read, one-more, next-there}
 use Rattle.judge.proofs.ReductionLaws.{refused, given-type}
 
 pub record Threshing (t : List ℕ) (m k n : ℕ) (earlier : Correctness) (at size i : ℕ) : Type 0 where
@@ -38,12 +38,9 @@ module _ (t : List ℕ) (m k n : ℕ) where
       }
 
   module _ {earlier : Correctness} {at size i : ℕ} (h : Threshing t m k n earlier at size i) where
-    one-more : i < n → n - i ≡ suc (n - (i + 1))
-    one-more more = omega arith
-
     -- the next child is there, and those after it
     pub child-there : i < n → (1 ≤ at) × (1 ≤ sizeAt t (at - 1)) × (sizeAt t (at - 1) ≤ at) × Subtrees (n - (i + 1)) (at - sizeAt t (at - 1)) t
-    child-there more = subst (λ (j : ℕ). Subtrees j at t) (one-more more) (h .waiting)
+    child-there more = next-there t n more (h .waiting)
 
     module _ {x : Correctness} {answer : Typed} (more : i < n) (x-is : x ≡ heldType (nodeAt t (at - 1))) (judged : answer ≡ thresholdChild i earlier x) where
       child-judged : making answer (λ next. reduceChildren k n (n - (i + 1)) (i + 1) next (size + sizeAt t (at - 1)) (newest (nodeAt t) (at - sizeAt t (at - 1)))) ≡ reduceMany k n (newest (nodeAt t) m)
@@ -53,7 +50,7 @@ module _ (t : List ℕ) (m k n : ℕ) where
           ap (λ (a : Typed). making a (λ next. rest next (size + sizeAt t (at - 1)) (newest (nodeAt t) (at - sizeAt t (at - 1))))) (judged ∙ ap (thresholdChild i earlier) x-is)
           ∙ ap (λ (ns : List Node). making (thresholdChild i earlier (heldType (nodeAt t (at - 1)))) (λ next. rest next (size + sizeAt t (at - 1)) ns)) (sym (under-read t at some refl))
           ∙ ap (λ (a : Node). making (thresholdChild i earlier (heldType a)) (λ next. rest next (size + a .size) (underTop (newest (nodeAt t) at)))) (sym (top-read t at some))
-          ∙ ap (λ (j : ℕ). reduceChildren k n j i earlier size (newest (nodeAt t) at)) (sym (one-more more))
+          ∙ ap (λ (j : ℕ). reduceChildren k n j i earlier size (newest (nodeAt t) at)) (sym (one-more n i more))
           ∙ h .same
 
       pub child-refused : {e : ErrorKind} {r : ℕ} → answer ≡ Not e → r ≡ reason answer → refuses r ≡ reduceMany k n (newest (nodeAt t) m)

@@ -1,5 +1,5 @@
 -- The flat node table, read by index: its newest node and what lies under that node's subtree; nodes written one after the other are read back; and a node more is put on the front of the list, or behind the nodes of the table. Assumes nothing.
-use mathlib.Core.Path.{_≡_, refl, sym, ap, _∙_}
+use mathlib.Core.Path.{_≡_, refl, sym, ap, subst, _∙_}
 use mathlib.Core.List.{List, [], _∷_, _++_, map, map-append, reverse}
 use Prim.Native.Nat.{ℕ, zero, suc, _+_, _-_, _*_, _≤_, _<_}
 use native.Mathlib.Nat.{add-zero}
@@ -11,7 +11,7 @@ use Rattle.tables.proofs.FlatLaws.{strided-map, append-entry}
 use Rattle.tables.proofs.NewestLaws.{newest-all, newest-push, newest-pop, newest-drop}
 use Rattle.standard.specs.Table.{Node, cells}
 use Rattle.judge.specs.Nodes.{noNode, topNode, underTop}
-use Rattle.judge.specs.NodeTable.{nodeAt, sizeAt}
+use Rattle.judge.specs.NodeTable.{nodeAt, sizeAt, Subtrees}
 
 -- The newest subtree
 
@@ -90,3 +90,13 @@ pub put-flat : (size : ℕ) (ns : List Node) (n : Node) → 9 * (length ns + 1) 
 put-flat size ns n room =
     append-entry 9 size (length ns) (map cells ns) (cells n) (strided-map 9 cells (λ x. refl) ns) refl (length-map ns cells) room
     ∙ ap (λ (es : List (List ℕ)). flat es ++ zeros (size - 9 * (length ns + 1))) (sym (map-append cells ns (n ∷ [])))
+
+-- Subtrees one after the other
+
+pub one-more : (n i : ℕ) → i < n → n - i ≡ suc (n - (i + 1))
+one-more n i more = omega arith
+
+-- of n subtrees that stand one after the other i are done: the next one is there, and those after it
+pub next-there : (t : List ℕ) (n : ℕ) {at i : ℕ} → i < n → Subtrees (n - i) at t
+    → (1 ≤ at) × (1 ≤ sizeAt t (at - 1)) × (sizeAt t (at - 1) ≤ at) × Subtrees (n - (i + 1)) (at - sizeAt t (at - 1)) t
+next-there t n {at} {i} more waiting = subst (λ (k : ℕ). Subtrees k at t) (one-more n i more) waiting

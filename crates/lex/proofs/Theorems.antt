@@ -42,6 +42,9 @@ room-outcome-unique s r r′ a b = a ∙ sym b
 pub tokens-at-most-twice : (room : ℕ) (s : List ℕ) (ts : List Token) → lexOf room s ≡ tokens ts → length ts ≤ 2 * length s
 tokens-at-most-twice room s ts e = let f : length ts + 2 * 0 ≤ 2 * length s = gives-few s (derived room s ts e .1) in omega arith
 
+pub same-tokens : {ts us : List Token} → tokens ts ≡ tokens us → ts ≡ us
+same-tokens e = cc
+
 -- the tokens are the same in any room that holds them
 pub same-tokens-in-any-room : (room other : ℕ) (s : List ℕ) (ts : List Token) → lexOf room s ≡ tokens ts → length ts ≤ other → lexOf other s ≡ tokens ts
 same-tokens-in-any-room room other s ts e h = let d = derived room s ts e in outcome-of other s ts (d .0) (d .1) h

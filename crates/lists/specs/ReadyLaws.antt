@@ -10,12 +10,13 @@ use Rattle.tables.specs.Choose.{pick}
 use Rattle.tables.specs.Tables.{newest}
 use Rattle.lex.specs.Token.{Lexeme}
 use Rattle.standard.specs.Tree as tree
-use Rattle.standard.specs.Tree.{Leaf, Tree, Trees, leaf, wrap, join, andOr, thresh, nil, _⊳_, many, _⊕_, size, sizes}
+use Rattle.standard.specs.Tree.{Leaf, Trees, thresh, nil, _⊳_, many, _⊕_, sizes}
 use Rattle.standard.specs.Allowed.{within, allowedLeaf, leafRefusal}
 use Rattle.standard.specs.Rows.{NonTerm, Expression, WExpression, MaybeAndV, AndV, Alt, Swap, EndIf, EndIfNotIf, EndIfElse, Tern, Reduce1, Reduce2, ThreshW, ThreshE, Asks, noneLeft, reduces3, refuses, enters, makes, reduces1, reduces2, reducesMany, Found, found, rowOf}
 use Rattle.standard.specs.Machine as machine
 use Rattle.standard.specs.Machine.{finish, step}
 use Rattle.standard.specs.Sound.{Good}
+use Rattle.standard.specs.TreeLaws.{many-sizes, many-append}
 use Rattle.row.specs.Request.{Request, refused, manyChildren, asked, readingAsked, leafAsked}
 use Rattle.judge.specs.NodeTable.{nodeAt, Finished}
 use Rattle.forest.specs.Forest.{Forest}
@@ -24,23 +25,6 @@ use Rattle.lists.specs.Small.{SmallLexemes, SmallK}
 use Rattle.lists.specs.SmallLaws.{SmallAsks, SmallFound, Countable, row-small}
 use Rattle.lists.specs.Ready.{mostCounted, Ready, ReadyReading}
 use Rattle.lists.specs.StepLaws.{few, taken}
-
--- Counting trees
-
-pub size-some : (t : Tree) → 1 ≤ size t
-size-some (leaf l) = omega arith
-size-some (wrap w x) = omega arith
-size-some (join c x y) = omega arith
-size-some (andOr x y z) = omega arith
-size-some (thresh k x xs) = omega arith
-
-pub many-sizes : (ts : Trees) → many ts ≤ sizes ts
-many-sizes nil = omega arith
-many-sizes (t ⊳ ts) = omega (arith, size-some t, many-sizes ts)
-
-pub many-append : (ts more : Trees) → many ts ≤ many (_⊕_ ts more)
-many-append nil more = omega arith
-many-append (t ⊳ ts) more = omega (arith, many-append ts more)
 
 -- a thresh has counted no more children than there are finished trees
 pub countable : (segwit : Bool) (tokens : List Lexeme) (entry : NonTerm) (work : List NonTerm) (left : List Lexeme) (done : Trees)

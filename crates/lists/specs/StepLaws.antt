@@ -16,12 +16,13 @@ use Rattle.standard.specs.Rows.{NonTerm, Asks, noneLeft, reduces3, refuses, ent
 use Rattle.standard.specs.Machine as machine
 use Rattle.standard.specs.Machine.{State, refusal, Limits, finish, step}
 use Rattle.standard.specs.Sound.{Good, take-all}
+use Rattle.standard.specs.TableLaws.{leaf-keys-length}
+use Rattle.standard.specs.Complete.{leaf-passes}
 use Rattle.row.specs.Request.{Request, asked, readingAsked, leafAsked}
 use Rattle.judge.specs.Nodes.{Making, newLeaf, reduceOne, reduceTwo, reduceThree, reduceMany}
 use Rattle.judge.specs.Nodes as judging
 use Rattle.forest.specs.Forest.{Forest, Agrees}
-use Rattle.forest.specs.ForestLaws.{nodes-counted, keys-counted, leaf-made, leaf-passes, leaf-refused, thresh-refused, wrap-agrees, join-agrees, and-or-agrees, thresh-agrees}
-use Rattle.forest.specs.KeyLaws.{leaf-keys-length}
+use Rattle.forest.specs.ForestLaws.{nodes-counted, keys-counted, leaf-made, leaf-refused, thresh-refused, wrap-agrees, join-agrees, and-or-agrees, thresh-agrees}
 use Rattle.forest.specs.TableLaws.{finished}
 use Rattle.lists.specs.Lists.{Lists, Next, goes, stops, fitting, goesOn, made, perform, performed, stepBy}
 

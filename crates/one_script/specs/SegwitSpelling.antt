@@ -4,7 +4,7 @@ use mathlib.Core.Bool.{Bool, true, false, _&&_, not, true≢false}
 use mathlib.Core.List.{List, [], _∷_, _++_}
 use Prim.Native.Nat.{ℕ, zero, suc, _+_, _-_, _≤_, _<_}
 use native.Mathlib.Omega.{arith}
-use borrow.Author.Tests.{eqb-true, eqb-false, leb-true}
+use borrow.Author.Tests.{eqb-true, eqb-false, leb-true, not-true}
 use lib.Dec.{eqb, leb, ltb}
 use lib.ListN.{length}
 use Rattle.tables.specs.Choose.{pick}
@@ -12,10 +12,10 @@ use Rattle.lex.specs.Token.{Data, Lexeme, op, num, push, EQUAL, NUMEQUAL, CHECK
 use Rattle.instruction.proofs.LowLaws.{below}
 use Rattle.spelling.specs.Spell.{hasFused, fusedByte, digits, numberBytes, opcodeByte, instructionBytes, verifiedBytes, isVerify, isFusible, fuses, spelling, pushBytes}
 use Rattle.spelling.specs.Lexemes.{Formed, AllFormed, NoNumEqualVerify}
+use Rattle.tables.proofs.BoolLaws.{left-true, right-true}
 use Rattle.standard.specs.Tree.{Key, key, sha256, hash256, ripemd160, hash160, Leaf, True, False, PkK, RawPkH, After, Older, HashLock, Multi, MultiA, Wrapper, alt, swap, check, dupIf, verify, nonZero, zeroNotEqual, Combination, andV, andB, orB, orD, orC, orI, Tree, Trees, leaf, wrap, join, andOr, thresh, nil, _⊳_}
 use Rattle.standard.specs.Written.{keysBefore, addedKeysBefore, leafBefore, opening, closing, first, between, last, treeBefore, addedTreesBefore, written}
 use Rattle.standard.specs.Allowed.{allMultiAKeys, multiAThreshold, threshAllowed, allowedLeaf, allowed, allAllowed}
-use Rattle.standard.specs.RuleLaws.{and-left, and-right}
 
 abbrev isNumEqual : Lexeme → Bool
 isNumEqual (op c) = eqb c NUMEQUAL
@@ -45,7 +45,7 @@ free-leaf (HashLock hash256 d) rest g = refl
 free-leaf (HashLock ripemd160 d) rest g = refl
 free-leaf (HashLock hash160 d) rest g = refl
 free-leaf (Multi k ks) rest g = free-keys ks _
-free-leaf (MultiA k d ds) rest g = absurd (true≢false (sym (and-right (multiAThreshold k) _ g)))
+free-leaf (MultiA k d ds) rest g = absurd (true≢false (sym (right-true (multiAThreshold k) _ g)))
 
 free-opening : (w : Wrapper) (rest : List Lexeme) → free (opening w ++ rest) ≡ free rest
 free-opening alt rest = refl
@@ -94,17 +94,17 @@ mutual
   free-tree (leaf l) rest g = free-leaf l rest g
   free-tree (wrap w x) rest g = free-opening w _ ∙ free-tree x _ g ∙ free-closing w rest
   free-tree (join c x y) rest g =
-      free-first c _ ∙ free-tree x _ (and-left (allowed true x) (allowed true y) g) ∙ free-between c _ ∙ free-tree y _ (and-right (allowed true x) (allowed true y) g) ∙ free-last c rest
+      free-first c _ ∙ free-tree x _ (left-true (allowed true x) (allowed true y) g) ∙ free-between c _ ∙ free-tree y _ (right-true (allowed true x) (allowed true y) g) ∙ free-last c rest
   free-tree (andOr x y z) rest g =
-      let g′ = and-right (allowed true x) (allowed true y && allowed true z) g in
-      free-tree x _ (and-left (allowed true x) (allowed true y && allowed true z) g) ∙ free-tree z _ (and-right (allowed true y) (allowed true z) g′) ∙ free-tree y _ (and-left (allowed true y) (allowed true z) g′)
+      let g′ = right-true (allowed true x) (allowed true y && allowed true z) g in
+      free-tree x _ (left-true (allowed true x) (allowed true y && allowed true z) g) ∙ free-tree z _ (right-true (allowed true y) (allowed true z) g′) ∙ free-tree y _ (left-true (allowed true y) (allowed true z) g′)
   free-tree (thresh k x xs) rest g =
-      let g′ = and-right (threshAllowed k x xs) (allowed true x && allAllowed true xs) g in
-      free-tree x _ (and-left (allowed true x) (allAllowed true xs) g′) ∙ free-trees xs _ (and-right (allowed true x) (allAllowed true xs) g′)
+      let g′ = right-true (threshAllowed k x xs) (allowed true x && allAllowed true xs) g in
+      free-tree x _ (left-true (allowed true x) (allAllowed true xs) g′) ∙ free-trees xs _ (right-true (allowed true x) (allAllowed true xs) g′)
 
   free-trees : (ts : Trees) (rest : List Lexeme) → allAllowed true ts ≡ true → free (addedTreesBefore ts rest) ≡ free rest
   free-trees nil rest g = refl
-  free-trees (t ⊳ ts) rest g = free-tree t _ (and-left (allowed true t) (allAllowed true ts) g) ∙ free-trees ts rest (and-right (allowed true t) (allAllowed true ts) g)
+  free-trees (t ⊳ ts) rest g = free-tree t _ (left-true (allowed true t) (allAllowed true ts) g) ∙ free-trees ts rest (right-true (allowed true t) (allAllowed true ts) g)
 
 pub segwit-free : (t : Tree) → allowed true t ≡ true → free (written t) ≡ true
 unfolding written
@@ -122,12 +122,8 @@ one-byte a b e = cc
 opcode-is-none : (c : ℕ) → 1 ≤ c → c ≤ 27 → opcodeByte c ∷ [] ≡ 0x9d ∷ [] → ⊥
 opcode-is-none c l h e = let f : eqb (opcodeByte c) 0x9d ≡ false = tested in eqb-false (opcodeByte c) 0x9d f (one-byte (opcodeByte c) 0x9d e)
   where
-    unequal : (b : Bool) → not b ≡ true → b ≡ false
-    unequal true q = absurd (true≢false (sym q))
-    unequal false q = refl
-
     tested : eqb (opcodeByte c) 0x9d ≡ false
-    tested = unequal (eqb (opcodeByte c) 0x9d) (below 28 (λ (k : ℕ). not (eqb (opcodeByte k) 0x9d)) refl c (omega arith))
+    tested = not-true (eqb (opcodeByte c) 0x9d) (below 28 (λ (k : ℕ). not (eqb (opcodeByte k) 0x9d)) refl c (omega arith))
 
 number-is-none : (n : ℕ) → numberBytes n ≡ 0x9d ∷ [] → ⊥
 unfolding numberBytes
@@ -155,18 +151,14 @@ fused-is-none (op c) m f n e = by (eqb c EQUAL) (eqb c NUMEQUAL) (eqb c CHECKSIG
 fused-is-none (num n) m f k e = let z : _≡_ {A = ℕ} 0 1 = cc in omega arith
 fused-is-none (push c d) m f k e = let z : _≡_ {A = ℕ} 0 1 = cc in omega arith
 
-not-true : (b : Bool) → not b ≡ true → b ≡ false
-not-true true q = absurd (true≢false (sym q))
-not-true false q = refl
-
 pub free-spelling : (ls : List Lexeme) → AllFormed ls → free ls ≡ true → NoNumEqualVerify (spelling ls)
 free-spelling [] f g = tt
 free-spelling (l ∷ []) f g = (instruction-is-none l (f .0), tt)
 free-spelling (l ∷ m ∷ ls) f g =
     by (fuses l m) refl
-    (free-spelling ls (f .1 .1) (and-right (not (isNumEqual m)) (free ls) (and-right (not (isNumEqual l)) (free (m ∷ ls)) g)))
-    (free-spelling (m ∷ ls) (f .1) (and-right (not (isNumEqual l)) (free (m ∷ ls)) g))
+    (free-spelling ls (f .1 .1) (right-true (not (isNumEqual m)) (free ls) (right-true (not (isNumEqual l)) (free (m ∷ ls)) g)))
+    (free-spelling (m ∷ ls) (f .1) (right-true (not (isNumEqual l)) (free (m ∷ ls)) g))
   where
     by : (b : Bool) → fuses l m ≡ b → NoNumEqualVerify (spelling ls) → NoNumEqualVerify (spelling (m ∷ ls)) → NoNumEqualVerify (pick b (verifiedBytes l ∷ spelling ls) (instructionBytes l ∷ spelling (m ∷ ls)))
-    by true e p q = (fused-is-none l m e (not-true (isNumEqual l) (and-left (not (isNumEqual l)) (free (m ∷ ls)) g)), p)
+    by true e p q = (fused-is-none l m e (not-true (isNumEqual l) (left-true (not (isNumEqual l)) (free (m ∷ ls)) g)), p)
     by false e p q = (instruction-is-none l (f .0), q)

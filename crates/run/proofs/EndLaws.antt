@@ -6,7 +6,6 @@ use Prim.Native.Nat.{ℕ, zero, suc, _+_, _-_, _*_, _/_, _≤_, _<_}
 use native.Mathlib.Omega.{arith}
 use Rattle.standard.specs.Rows.{NonTerm}
 use Rattle.work_list.specs.Work.{workOf}
-use Rattle.lists.specs.ReadyLaws.{size-some}
 use lib.Dec.{eqb}
 use lib.ListN.{length, getD, take, drop, length-take, length-drop, length-reverse}
 use lib.Seq.{ext-getD, getD-take, getD-drop, take-add}
@@ -25,6 +24,7 @@ use Rattle.standard.specs.Tree.{Tree, Trees, nil, _⊳_, sizes}
 use Rattle.standard.specs.Table.{Node, cells, nodeTable, keyTable}
 use Rattle.standard.specs.Machine as machine
 use Rattle.standard.specs.Machine.{Limits, Refusal, refusal, Run, ends, accepted, refused, carryOn, decode, closes, topIs, start}
+use Rattle.standard.specs.TreeLaws.{size-some}
 use Rattle.standard.specs.Sound.{Good, end-good}
 use Rattle.row.specs.Tokens.{lexemesLeft}
 use Rattle.judge.specs.Nodes.{topNode, heldType}
@@ -37,8 +37,8 @@ use Rattle.writes.specs.declared.State.{State}
 use Rattle.perform.specs.View.{viewOf, roomOf, Behind}
 use Rattle.run.specs.declared.Ran.{Ran}
 use Rattle.run.specs.Runs.{closesWith, Runs}
-use Rattle.run.proofs.RunLaws.{Running, back}
-use Rattle.run.proofs.SteppingLaws.{nodes-are, keys-are}
+use Rattle.run.proofs.RunLaws.{Running, nodes-are, nodes-inside}
+use Rattle.run.proofs.SteppingLaws.{keys-are}
 
 -- Tables with zeros behind
 
@@ -142,9 +142,6 @@ module _ (segwit : Bool) (script tokens : List ℕ) (count : ℕ) (limits : Limi
   pub some-node : 1 ≤ s .nodes
   some-node = let e : sizes done ≡ sizes (the-tree .0 ⊳ nil) = ap sizes (the-tree .1) in omega (arith, nodes-are segwit script tokens count limits running, e, size-some (the-tree .0))
 
-  pub nodes-in : 9 * s .nodes ≤ length nodes
-  nodes-in = omega (arith, nodes-are segwit script tokens count limits running, running .fits .nodes-fit, ap (λ (l : Limits). l .nodes) (running .rooms))
-
   -- the newest node is the tree's root, and holds its type
   root-type : typeOf segwit (the-tree .0) ≡ Is (heldType (nodeAt nodes (s .nodes - 1)))
   unfolding viewOf
@@ -168,7 +165,7 @@ module _ (segwit : Bool) (script tokens : List ℕ) (count : ℕ) (limits : Limi
         left-is = sym (ap (λ (x : Refusal). x .before) e);
         steps-are = refl;
         some = omega (arith, ap (λ (x : Refusal). x .number) e);
-        nodes-in = nodes-in;
+        nodes-in = nodes-inside segwit script tokens count limits running;
         keys-in = running .keys-in;
         nodes-behind = running .nodes-behind;
         keys-behind = running .keys-behind;
@@ -185,7 +182,7 @@ module _ (segwit : Bool) (script tokens : List ℕ) (count : ℕ) (limits : Limi
       let k : s .keys ≡ length (keyTable (t ⊳ nil)) = sym taken ∙ ap length (f .keys-are) in
       rw v (record {
         answers = ap (λ (i : ℕ). record { number = 0; reason = 0; left = 0; steps = steps; nodes = i; keys = s .keys }) n ∙ ap (λ (i : ℕ). record { number = 0; reason = 0; left = 0; steps = steps; nodes = length (nodeTable segwit (t ⊳ nil)); keys = i }) k;
-        nodes-are = whole-nodes nodes (s .nodes) nodes-in (running .nodes-behind) ∙ ap (nodesIn (length nodes)) table;
+        nodes-are = whole-nodes nodes (s .nodes) (nodes-inside segwit script tokens count limits running) (running .nodes-behind) ∙ ap (nodesIn (length nodes)) table;
         keys-are = zeros-behind keys (s .keys) (running .keys-in) (running .keys-behind) ∙ ap (λ (ks : List ℕ). ks ++ zeros (length keys - s .keys)) (f .keys-are) ∙ ap (λ (i : ℕ). keyTable (t ⊳ nil) ++ zeros (length keys - i)) k;
       })
 
@@ -218,7 +215,7 @@ unfolding decode
 no-room segwit limits l h =
     let started : start segwit limits l ≡ machine.stops (refusal 17 0 l) = rw (le-leb 0 (limits .keys) (omega arith), le-leb 0 (limits .nodes) (omega arith), lt-leb 2 (limits .work) h) in
     let e : 8 * length (reverseAux l []) + 2 ≡ suc (8 * length (reverseAux l []) + 1) = omega arith in
-    ap (carryOn segwit limits (8 * length (reverseAux l []) + 2) 0) (ap (start segwit limits) (back l) ∙ started) ∙ ap (λ (k : ℕ). carryOn segwit limits k 0 (machine.stops (refusal 17 0 l))) e
+    ap (carryOn segwit limits (8 * length (reverseAux l []) + 2) 0) (ap (start segwit limits) (reverse-reverse l) ∙ started) ∙ ap (λ (k : ℕ). carryOn segwit limits k 0 (machine.stops (refusal 17 0 l))) e
 
 pub full-at-start : (segwit : Bool) (script tokens : List ℕ) (count : ℕ) (nodes keys work : List ℕ) {r : Ran} → length work < 2 → Behind nodes 0 → Behind keys 0
     → r ≡ record { number = 17; reason = 0; left = count; steps = 0; nodes = 0; keys = 0 } → Runs segwit (decode segwit (roomOf nodes keys work) (reverseAux (lexemesLeft script tokens count) [])) nodes keys r

@@ -1,11 +1,11 @@
 -- The loop of `run`: at each turn the tables hold what the machine on trees holds, and the run from there on is the run from the start. Assumes nothing.
 use mathlib.Core.Path.{_≡_, refl, sym, ap, subst, _∙_}
 use mathlib.Core.Bool.{Bool, true, false}
-use mathlib.Core.List.{List, [], _∷_, _++_, reverseAux}
+use mathlib.Core.List.{List, [], _∷_, reverseAux, reverse-reverse}
 use Prim.Native.Nat.{ℕ, zero, suc, _+_, _-_, _*_, _≤_, _<_}
 use native.Mathlib.Omega.{arith}
 use lib.Dec.{leb}
-use lib.ListN.{length, take}
+use lib.ListN.{length, take, length-reverseAux}
 use borrow.Author.Tests.{le-leb, leb-true}
 use Rattle.tables.specs.Choose.{pick}
 use Rattle.tables.specs.Tables.{newest}
@@ -35,23 +35,6 @@ use Rattle.writes.specs.Written.{counts}
 use Rattle.perform.specs.View.{viewOf, seen, roomOf, Behind, Kept, Steps}
 use Rattle.run.specs.declared.Ran.{Ran}
 use Rattle.run.specs.Runs.{Runs}
-
--- Reversing twice
-
-rev-rev : (x a b : List Lexeme) → reverseAux (reverseAux x a) b ≡ reverseAux a (x ++ b)
-rev-rev [] a b = refl
-rev-rev (t ∷ x) a b = rev-rev x (t ∷ a) b
-
-append-nothing : (l : List Lexeme) → l ++ [] ≡ l
-append-nothing [] = refl
-append-nothing (x ∷ l) = ap (λ (t : List Lexeme). x ∷ t) (append-nothing l)
-
-pub back : (l : List Lexeme) → reverseAux (reverseAux l []) [] ≡ l
-back l = rev-rev l [] [] ∙ append-nothing l
-
-pub reversed-length : (x a : List Lexeme) → length (reverseAux x a) ≡ length x + length a
-reversed-length [] a = omega arith
-reversed-length (t ∷ x) a = omega (arith, reversed-length x (t ∷ a))
 
 -- What fits
 
@@ -114,14 +97,14 @@ module _ (segwit : Bool) (script tokens : List ℕ) (count : ℕ) (limits : Limi
       let started : start segwit limits left₀ ≡ machine.goes begin = rw (le-leb 0 (limits .keys) (omega arith), le-leb 0 (limits .nodes) (omega arith), le-leb 2 (limits .work) room) in
       let counted : length left₀ ≡ count = newest-length _ count in
       let b : Bounded (length left₀) (pushes left₀) 0 (machine.goes begin) = begin-bounded left₀ in
-      let l : length lexemes ≡ count = omega (arith, reversed-length left₀ []) in
+      let l : length lexemes ≡ count = omega (arith, length-reverseAux left₀ []) in
       record {
         state = begin;
         most = 8 * length lexemes + 2;
         same = record { work = w; left = refl; forest = forest-empty segwit };
         good = start-good segwit lexemes left₀ refl;
         bounded = rw counted at b;
-        run = ap (carryOn segwit limits (8 * length lexemes + 2) 0) (ap (start segwit limits) (back left₀) ∙ started);
+        run = ap (carryOn segwit limits (8 * length lexemes + 2) 0) (ap (start segwit limits) (reverse-reverse left₀) ∙ started);
         enough = omega (arith, b .0);
         rooms = rooms;
         fits = record { keys-fit = omega arith; nodes-fit = omega arith; work-fits = room };
@@ -129,6 +112,14 @@ module _ (segwit : Bool) (script tokens : List ℕ) (count : ℕ) (limits : Limi
         keys-behind = bk;
         keys-in = omega arith;
       }
+
+  module _ {nodes keys work : List ℕ} {s : State} {steps : ℕ} (running : Running nodes keys work s steps) where
+    pub nodes-are : sizes (running .state .done) ≡ s .nodes
+    unfolding viewOf
+    nodes-are = sym (nodes-counted segwit (running .same .forest)) ∙ newest-length (nodeAt nodes) (s .nodes)
+
+    pub nodes-inside : 9 * s .nodes ≤ length nodes
+    nodes-inside = omega (arith, nodes-are, running .fits .nodes-fit, ap (λ (l : Limits). l .nodes) (running .rooms))
 
   -- A turn
 
@@ -252,12 +243,6 @@ module _ (segwit : Bool) (script tokens : List ℕ) (count : ℕ) (limits : Limi
         let w : within 9 (q .number) 19 ≡ true = never-empty segwit limits lexemes q e in
         omega (arith, leb-true 9 (q .number) (left-true (leb 9 (q .number)) (leb (q .number) 19) w))
 
-    pub nodes-inside : 9 * s .nodes ≤ length nodes
-    nodes-inside =
-        let c : length (newest (nodeAt nodes) (s .nodes)) ≡ sizes done = nodes-counted segwit forest in
-        let m : length (newest (nodeAt nodes) (s .nodes)) ≡ s .nodes = newest-length (nodeAt nodes) (s .nodes) in
-        omega (arith, running .fits .nodes-fit, ap (λ (l : Limits). l .nodes) (running .rooms))
-
     keys-inside : s .keys ≤ length keys
     keys-inside = running .keys-in
 
@@ -280,7 +265,7 @@ module _ (segwit : Bool) (script tokens : List ℕ) (count : ℕ) (limits : Limi
               left-is = ap (λ (x : Refusal). x .before) g;
               steps-are = omega arith;
               some = p;
-              nodes-in = nodes-inside;
+              nodes-in = nodes-inside running;
               keys-in = keys-inside;
               nodes-behind = running .nodes-behind;
               keys-behind = running .keys-behind;

@@ -6,7 +6,7 @@ use Prim.Native.Nat.{ℕ, zero, suc, _+_, _-_, _*_, _/_, _%_, _≤_, _<_}
 use native.Mathlib.Nat.{mod-lt}
 use native.Mathlib.Omega.{arith}
 use lib.Dec.{eqb, leb}
-use lib.ListN.{length, getD, take, length-take}
+use lib.ListN.{length, getD, take, length-take, length-reverseAux}
 use Rattle.tables.specs.Choose.{pick}
 use Rattle.tables.proofs.NewestLaws.{newest-length}
 use Rattle.lex.specs.Token.{Token, Lexeme, op, num, push, lexeme, dataAt, dataLength, NUM, HASH20, BYTES65}
@@ -14,21 +14,21 @@ use Rattle.standard.specs.Tree.{Trees, nil, _⊳_, _⊕_, many, sizes, keyCount
 use Rattle.standard.specs.Rows as rows
 use Rattle.standard.specs.Machine as machine
 use Rattle.standard.specs.Machine.{Limits}
+use Rattle.standard.specs.TreeLaws.{many-sizes, many-append}
 use Rattle.standard.specs.Sound.{Good}
 use Rattle.standard.specs.Bound.{pushes, pushes-le}
 use Rattle.row.specs.declared.NonTerm.{NonTerm}
 use Rattle.row.specs.declared.NonTerm.the-variants as non-term
 use Rattle.row.specs.Tokens.{InTable, tokenAt, lexemesLeft}
 use Rattle.row.specs.Request.{counted, entryOf}
-use Rattle.judge.specs.NodeTable.{nodeAt}
 use Rattle.work_list.specs.Work.{kOf, nOf, inOrder, unpacked, entryAt, workOf}
-use Rattle.forest.specs.ForestLaws.{nodes-counted, keys-counted}
+use Rattle.forest.specs.ForestLaws.{keys-counted}
 use Rattle.lists.specs.Small.{SmallK, SmallLexeme, SmallLexemes}
-use Rattle.lists.specs.ReadyLaws.{many-sizes, many-append, countable, step-ready}
+use Rattle.lists.specs.ReadyLaws.{countable, step-ready}
 use Rattle.writes.specs.declared.State.{State}
 use Rattle.perform.specs.View.{viewOf, Inside}
 use Rattle.run.specs.Stepping.{Stepping}
-use Rattle.run.proofs.RunLaws.{Running, reversed-length, state-good, next-good, forest, nodes-inside}
+use Rattle.run.proofs.RunLaws.{Running, state-good, next-good, forest, nodes-inside, nodes-are}
 
 -- An entry's k is a 32-bit number
 
@@ -111,11 +111,7 @@ module _ (segwit : Bool) (script tokens : List ℕ) (count : ℕ) (limits : Limi
       let g = running .good in
       let e : length (reverseAux (running .state .left) (g .0)) ≡ length (reverseAux (lexemesLeft script tokens count) []) = ap length (g .2) in
       let c : length (lexemesLeft script tokens count) ≡ count = newest-length _ count in
-      omega (arith, left-length, reversed-length (running .state .left) (g .0), reversed-length (lexemesLeft script tokens count) [], e)
-
-  pub nodes-are : sizes (running .state .done) ≡ s .nodes
-  unfolding viewOf
-  nodes-are = sym (nodes-counted segwit (running .same .forest)) ∙ newest-length (nodeAt nodes) (s .nodes)
+      omega (arith, left-length, length-reverseAux (running .state .left) (g .0), length-reverseAux (lexemesLeft script tokens count) [], e)
 
   pub keys-are : keyCounts (running .state .done) ≡ s .keys
   unfolding viewOf
@@ -132,10 +128,10 @@ module _ (segwit : Bool) (script tokens : List ℕ) (count : ℕ) (limits : Limi
   inside few =
       let p : pushes (lexemesLeft script tokens count) ≤ count = omega (arith, pushes-le (lexemesLeft script tokens count), newest-length (λ (i : ℕ). lexeme script (tokenAt tokens i)) count) in
       record {
-        in-nodes = omega (arith, nodes-are, running .fits .nodes-fit, ap (λ (l : Limits). l .nodes) (running .rooms));
+        in-nodes = omega (arith, nodes-inside segwit script tokens count limits running);
         in-keys = running .keys-in;
         in-work = omega (arith, work-is, running .fits .work-fits, ap (λ (l : Limits). l .work) (running .rooms));
-        few-nodes = omega (arith, nodes-are, running .bounded .1);
+        few-nodes = omega (arith, nodes-are segwit script tokens count limits running, running .bounded .1);
         few-keys = omega (arith, keys-are, running .bounded .2);
       }
 
@@ -150,7 +146,7 @@ module _ (segwit : Bool) (script tokens : List ℕ) (count : ℕ) (limits : Limi
         inside = i;
         countable = omega (arith, few-counted segwit (reverseAux (lexemesLeft script tokens count) []) (unpacked (getD work (s .work - 1) 0)) (workOf work (s .work - 1)) (lexemesLeft script tokens (s .left)) (running .state .done) good);
         ready =
-            step-ready segwit (s .nodes) nodes (take (s .keys) keys) (nodes-inside segwit script tokens count limits running some) (i .few-nodes) (reverseAux (lexemesLeft script tokens count) [])
+            step-ready segwit (s .nodes) nodes (take (s .keys) keys) (nodes-inside segwit script tokens count limits running) (i .few-nodes) (reverseAux (lexemesLeft script tokens count) [])
             (entryAt work (s .work - 1)) (workOf work (s .work - 1)) (lexemesLeft script tokens (s .left)) (running .state .done)
             (countable segwit (reverseAux (lexemesLeft script tokens count) []) (entryAt work (s .work - 1)) (workOf work (s .work - 1)) (lexemesLeft script tokens (s .left)) (running .state .done) good (omega arith) (small-k (getD work (s .work - 1) 0)))
             (small-lexemes script tokens (s .left) (table .low)) (forest segwit script tokens count limits running some) (next-good segwit script tokens count limits running some);

@@ -12,8 +12,8 @@ use lib.ListN.{length, take, drop, length-drop}
 use lib.Seq.{length-take-le}
 use Rattle.lex.specs.Token.{Data}
 use Rattle.spelling.specs.Spell.{numberBytes}
+use Rattle.tables.proofs.BoolLaws.{left-true, right-true}
 use Rattle.standard.specs.Tree.{Wrapper, Combination, Trees, thresh, nil, _⊳_, _⊕_, many}
-use Rattle.standard.specs.RuleLaws.{and-left, and-right}
 use Rattle.standard.specs.Table.{Node, Terminal, noTerminal, isTrue, isFalse, isPkK, isRawPkH, isAfter, isOlder, isHash, isWrapper, isCombination, isAndOr, isThresh, isMulti, isMultiA, hashLength, keyLength, keysAt, datasAt, takeTrees, multiAOf, wrapTop, joinTop, andOrTop, threshTop, addTerminal}
 use Rattle.encoding.specs.Form.{Shape, shape, shapeOf, unusedAreZero, allWithin, keysNamed, inRange, rightSize, formedAs}
 use Rattle.script_length.specs.Length.{wrapperBytes, combinationBytes, terminalBytes}
@@ -44,7 +44,7 @@ module _ (material : List ℕ) where
   keys-bytes : (offsets : List ℕ) → allWithin 33 (length material) offsets ≡ true → keysBytes (keysAt material offsets) ≡ 34 * length offsets
   keys-bytes [] e = refl
   keys-bytes (p ∷ ps) e =
-      omega (arith, data-length material p 33 (and-left (leb (p + 33) (length material)) _ e), keys-bytes ps (and-right (leb (p + 33) (length material)) _ e))
+      omega (arith, data-length material p 33 (left-true (leb (p + 33) (length material)) _ e), keys-bytes ps (right-true (leb (p + 33) (length material)) _ e))
 
   keys-many : (offsets : List ℕ) → length (keysAt material offsets) ≡ length offsets
   keys-many [] = refl
@@ -53,7 +53,7 @@ module _ (material : List ℕ) where
   datas-bytes : (offsets : List ℕ) → allWithin 32 (length material) offsets ≡ true → addedKeysBytes (datasAt material offsets) ≡ 34 * length offsets
   datas-bytes [] e = refl
   datas-bytes (p ∷ ps) e =
-      omega (arith, data-length material p 32 (and-left (leb (p + 32) (length material)) _ e), datas-bytes ps (and-right (leb (p + 32) (length material)) _ e))
+      omega (arith, data-length material p 32 (left-true (leb (p + 32) (length material)) _ e), datas-bytes ps (right-true (leb (p + 32) (length material)) _ e))
 
 named-many : (n : Node) (keys : List ℕ) → leb (n .place + n .count) (length keys) ≡ true → length (keysNamed n keys) ≡ n .count
 named-many n keys e = data-length keys (n .place) (n .count) e
@@ -103,7 +103,7 @@ multi-a-adds k own (d ∷ ds) ts e = omega (arith, e)
 
 module _ (segwit : Bool) (material keys : List ℕ) where
   range-of : (s : Shape) (n : Node) (ts : Trees) → formedAs (length material) keys (some s) n ts ≡ true → inRange (length material) keys s n ≡ true
-  range-of s n ts f = and-left (inRange (length material) keys s n) (rightSize s n ts) (and-right (unusedAreZero s n) _ f)
+  range-of s n ts f = left-true (inRange (length material) keys s n) (rightSize s n ts) (right-true (unusedAreZero s n) _ f)
 
   pub terminal-adds : (kind : Terminal) (n : Node) (fusible : Bool) (ts : Trees) → formedAs (length material) keys (shapeOf segwit kind) n ts ≡ true → NewestEnds fusible ts
       → Adds (terminalBytes segwit kind (n .number) (n .count) fusible) ts (addTerminal segwit material keys kind n ts)
@@ -121,10 +121,10 @@ module _ (segwit : Bool) (material keys : List ℕ) where
   terminal-adds isThresh n fusible ts f e = thresh-adds (n .number) (n .count) ts
   terminal-adds isMulti n fusible ts f e =
       let r : (leb (n .place + n .count) (length keys) && allWithin 33 (length material) (keysNamed n keys)) ≡ true = range-of (shape true false 0 33 0) n ts f in
-      let many-keys : length (keysAt material (keysNamed n keys)) ≡ n .count = keys-many material (keysNamed n keys) ∙ named-many n keys (and-left (leb (n .place + n .count) (length keys)) _ r) in
-      let b : keysBytes (keysAt material (keysNamed n keys)) ≡ 34 * length (keysNamed n keys) = keys-bytes material (keysNamed n keys) (and-right (leb (n .place + n .count) (length keys)) _ r) in
+      let many-keys : length (keysAt material (keysNamed n keys)) ≡ n .count = keys-many material (keysNamed n keys) ∙ named-many n keys (left-true (leb (n .place + n .count) (length keys)) _ r) in
+      let b : keysBytes (keysAt material (keysNamed n keys)) ≡ 34 * length (keysNamed n keys) = keys-bytes material (keysNamed n keys) (right-true (leb (n .place + n .count) (length keys)) _ r) in
       omega (arith, many-keys, b, ap (λ (k : ℕ). length (numberBytes k)) many-keys, keys-many material (keysNamed n keys))
   terminal-adds isMultiA n fusible ts f e =
       let r : (leb (n .place + n .count) (length keys) && allWithin 32 (length material) (keysNamed n keys)) ≡ true = range-of (shape true false 0 32 0) n ts f in
-      let b : addedKeysBytes (datasAt material (keysNamed n keys)) ≡ 34 * length (keysNamed n keys) = datas-bytes material (keysNamed n keys) (and-right (leb (n .place + n .count) (length keys)) _ r) in
-      multi-a-adds (n .number) _ (datasAt material (keysNamed n keys)) ts (omega (arith, b, named-many n keys (and-left (leb (n .place + n .count) (length keys)) _ r)))
+      let b : addedKeysBytes (datasAt material (keysNamed n keys)) ≡ 34 * length (keysNamed n keys) = datas-bytes material (keysNamed n keys) (right-true (leb (n .place + n .count) (length keys)) _ r) in
+      multi-a-adds (n .number) _ (datasAt material (keysNamed n keys)) ts (omega (arith, b, named-many n keys (left-true (leb (n .place + n .count) (length keys)) _ r)))

@@ -1,15 +1,15 @@
 -- How many bytes the spelling of a tree has: what each of its nodes adds, without the VERIFY of each v: over a script that ends in an opcode with a verifying form. Assumes nothing.
 -- Why: two lexemes are spelled as one only where the second is a VERIFY, no tree's script begins with one, and so a tree's own script and what stands behind it share at most the byte of a VERIFY that comes next.
-use mathlib.Core.Path.{_≡_, refl, sym, ap, _∙_}
-use mathlib.Core.Bool.{Bool, true, false, true≢false}
+use mathlib.Core.Path.{_≡_, refl, ap, _∙_}
+use mathlib.Core.Bool.{Bool, true, false}
 use mathlib.Core.List.{List, [], _∷_}
 use Prim.Native.Nat.{ℕ, suc, _+_}
 use native.Mathlib.Omega.{arith}
-use borrow.Author.Tests.{eqb-true}
 use lib.ListN.{length, length-append}
 use Rattle.lex.specs.Token.{Data, Lexeme, op, num, push}
 use Rattle.lex.specs.Token.{BOOLAND, BOOLOR, ADD, EQUAL, NUMEQUAL, CHECKSIG, CHECKSIGADD, CHECKMULTISIG, CHECKSEQUENCEVERIFY, CHECKLOCKTIMEVERIFY, FROMALTSTACK, TOALTSTACK, DUP, IF, IFDUP, NOTIF, ELSE, ENDIF, ZERONOTEQUAL, SIZE, SWAP, VERIFY, HASH160, HASH20, BYTES32}
 use Rattle.spelling.specs.Spell.{hasFused, numberBytes, digits, instructionBytes, verifiedBytes, isVerify, isFusible, fuses, spelling, spell}
+use Rattle.spelling.proofs.ScriptSpelling.{is-verify}
 use Rattle.tables.specs.Choose.{pick}
 use Rattle.tables.specs.Tables.{flat}
 use Rattle.standard.specs.Tree.{Key, key, Hash, sha256, hash256, ripemd160, hash160, Leaf, True, False, PkK, RawPkH, After, Older, HashLock, Multi, MultiA, Wrapper, alt, swap, check, dupIf, verify, nonZero, zeroNotEqual, Combination, andV, andB, orB, orD, orC, orI, Tree, Trees, leaf, wrap, join, andOr, thresh, nil, _⊳_}
@@ -99,11 +99,6 @@ plain-first l (m ∷ rest) e =
     let f : fuses l m ≡ false = ap (λ (b : Bool). pick b (isVerify m) false) e in
     ap (λ (b : Bool). length (flat (pick b (verifiedBytes l ∷ spelling rest) (instructionBytes l ∷ spelling (m ∷ rest))))) f
     ∙ length-append (instructionBytes l) (flat (spelling (m ∷ rest)))
-
-is-verify : (m : Lexeme) → isVerify m ≡ true → m ≡ op VERIFY
-is-verify (op c) e = ap op (eqb-true c VERIFY e)
-is-verify (num n) e = absurd (true≢false (sym e))
-is-verify (push c d) e = absurd (true≢false (sym e))
 
 opcode-first : (code : ℕ) (rest : List Lexeme) → hasFused code ≡ false → length (spell (op code ∷ rest)) ≡ suc (length (spell rest))
 opcode-first code rest e = plain-first (op code) rest e ∙ omega arith

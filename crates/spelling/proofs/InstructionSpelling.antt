@@ -1,7 +1,7 @@
 -- An instruction that is accepted is the spelling of its lexeme: one instruction at a place of a script. Assumes nothing.
 -- Why: the opcode table is computed over all bytes; a push with a wider length form has 76 bytes or more, and no token.
 use mathlib.Core.Path.{_≡_, refl, sym, ap, subst, _∙_}
-use mathlib.Core.Bool.{Bool, true, false, not, true≢false}
+use mathlib.Core.Bool.{Bool, true, false, not}
 use mathlib.Core.List.{List, [], _∷_}
 use Prim.Native.Nat.{ℕ, zero, suc, _+_, _-_, _≤_, _<_}
 use native.Mathlib.Omega.{arith}
@@ -12,6 +12,7 @@ use lib.Dec.{eqb, leb, ltb}
 use lib.ListN.{length, take, drop, getD, length-drop}
 use lib.Seq.{drop-drop, getD-drop, getD-take, length-take-le}
 use Rattle.tables.specs.Choose.{pick}
+use Rattle.tables.proofs.BoolLaws.{picked-both}
 use Rattle.instruction.specs.declared.Op.{Op}
 use Rattle.instruction.specs.declared.Op.the-variants.{Push, Sized, Num, One, Fused, Verify, Unlisted}
 use Rattle.instruction.specs.declared.Number.{Number}
@@ -28,10 +29,6 @@ use Rattle.instruction.proofs.LowLaws.{bytes-drop, bytes-take, below}
 use Rattle.spelling.specs.Spell.{opcodeByte, hasFused, fusedByte, pushBytes, numberBytes, instructionBytes}
 use Rattle.spelling.specs.Lexemes.{Formed}
 use Rattle.spelling.proofs.NumberSpelling.{number-is-spelled}
-
-pub both : (a b : Bool) → pick a b false ≡ true → (a ≡ true) × (b ≡ true)
-both true b e = (refl, e)
-both false b e = absurd (true≢false (sym e))
 
 -- ---- the opcode table, at each byte: which byte asked for this
 abbrev pub rightByte : ℕ → Op → Bool
@@ -182,20 +179,20 @@ module _ (s : List ℕ) (at last : ℕ) (bytes : Bytes s) (here : at < length s)
       (λ _. tt)
 
   given-canonical : (o : Op) → rightByte (getD rest 0 0) o ≡ true → Canonical (given o rest last)
-  given-canonical (Push n) e = push-canonical n (sym (eqb-true n (getD rest 0 0) (both (eqb n (getD rest 0 0)) (leb n 75) e .0)))
+  given-canonical (Push n) e = push-canonical n (sym (eqb-true n (getD rest 0 0) (picked-both (eqb n (getD rest 0 0)) (leb n 75) e .0)))
   given-canonical (Sized w least) e = sized-canonical w least (leb-true 76 least e)
   given-canonical (Num n) e =
-      let p = both (eqb (getD rest 0 0) (0x50 + n)) (pick (leb 1 n) (leb n 16) false) e in
-      let q = both (leb 1 n) (leb n 16) (p .1) in
+      let p = picked-both (eqb (getD rest 0 0) (0x50 + n)) (pick (leb 1 n) (leb n 16) false) e in
+      let q = picked-both (leb 1 n) (leb n 16) (p .1) in
       byte-num n (eqb-true (getD rest 0 0) (0x50 + n) (p .0)) (leb-true 1 n (q .0)) (leb-true n 16 (q .1))
   given-canonical (One c) e =
-      let p = both (eqb (getD rest 0 0) (opcodeByte c)) (pick (leb 1 c) (pick (leb c 27) (not (eqb c VERIFY)) false) false) e in
-      let q = both (leb 1 c) (pick (leb c 27) (not (eqb c VERIFY)) false) (p .1) in
-      let r = both (leb c 27) (not (eqb c VERIFY)) (q .1) in
+      let p = picked-both (eqb (getD rest 0 0) (opcodeByte c)) (pick (leb 1 c) (pick (leb c 27) (not (eqb c VERIFY)) false) false) e in
+      let q = picked-both (leb 1 c) (pick (leb c 27) (not (eqb c VERIFY)) false) (p .1) in
+      let r = picked-both (leb c 27) (not (eqb c VERIFY)) (q .1) in
       byte-op c (eqb-true (getD rest 0 0) (opcodeByte c) (p .0)) (leb-true 1 c (q .0)) (leb-true c 27 (r .0))
       (λ z. absurd (eqb-false c VERIFY (not-true (eqb c VERIFY) (r .1)) z))
   given-canonical (Fused c) e =
-      let p = both (eqb (getD rest 0 0) (fusedByte c)) (hasFused c) e in
+      let p = picked-both (eqb (getD rest 0 0) (fusedByte c)) (hasFused c) e in
       (front-one rest some ∙ ap (λ (b : ℕ). b ∷ []) (eqb-true (getD rest 0 0) (fusedByte c) (p .0)), p .1)
   given-canonical Verify e =
       either Canonical (verifyRefused last) _ _ (λ _. tt) (λ w. byte-op 23 (eqb-true (getD rest 0 0) 0x69 e) (omega arith) (omega arith) (λ _. w))

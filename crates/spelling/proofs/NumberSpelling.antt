@@ -173,7 +173,7 @@ bytes-1 : (a : ℕ) → a < 256 → Bytes (a ∷ [])
 bytes-1 a h zero = h
 bytes-1 a h (suc i) = omega arith
 
-bytes-more : (a : ℕ) (d : List ℕ) → a < 256 → Bytes d → Bytes (a ∷ d)
+pub bytes-more : (a : ℕ) (d : List ℕ) → a < 256 → Bytes d → Bytes (a ∷ d)
 bytes-more a d h b zero = h
 bytes-more a d h b (suc i) = b i
 

@@ -1,12 +1,13 @@
 -- Places rise from instruction to instruction, the two tokens of a fused opcode share one, and pushed data starts one byte behind its token's place and lies within the script. Assumes nothing.
 use mathlib.Core.Path.{_≡_, refl, sym, ap, subst, _∙_}
-use mathlib.Core.List.{List, [], _∷_}
-use Prim.Native.Nat.{ℕ, zero, suc, _+_, _-_, _≤_, _<_}
+use mathlib.Core.List.{List, _∷_}
+use Prim.Native.Nat.{ℕ, _+_, _-_, _≤_, _<_}
 use native.Mathlib.Omega.{arith}
 use native.Mathlib.Nat.{add-zero}
 use borrow.Author.Tests.{ne-eqb, le-leb}
 use lib.ListN.{length, take, drop, getD, length-drop}
 use lib.Seq.{getD-drop, getD-take}
+use Rattle.tables.proofs.ListLaws.{take-whole}
 use Rattle.lex.specs.Token.{Bytes, Token, token, Data, Lexeme, op, num, push, dataLength, dataAt, lexeme, VERIFY}
 use Rattle.lex.specs.Script.{lexOf, tokens}
 use Rattle.instruction.proofs.SizeLaws.{one-fits, two-fits}
@@ -36,11 +37,6 @@ places-rise room s ts e = gives-rise s (derived room s ts e .1) 0 (omega arith)
 lexeme-data : (s : List ℕ) (c v at : ℕ) → 29 ≤ c → c ≤ 32 → lexeme s (token c v at) ≡ push c (dataAt s (at + 1) (dataLength c))
 unfolding lexeme
 lexeme-data s c v at l h = simp (ne-eqb c 28 (λ e. omega arith), le-leb 29 c l, le-leb c 32 h)
-
-take-whole : (k : ℕ) (l : List ℕ) → length (take k l) ≡ k → k ≤ length l
-take-whole zero l e = omega arith
-take-whole (suc k) [] e = absurd (omega arith)
-take-whole (suc k) (x ∷ l) e = let i : k ≤ length l = take-whole k l (omega arith) in omega arith
 
 first-byte : (s : List ℕ) (at n b : ℕ) (r : List ℕ) → 1 ≤ n → take n (drop at s) ≡ b ∷ r → getD s at 0 ≡ b
 first-byte s at n b r h e =

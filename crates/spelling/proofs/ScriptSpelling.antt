@@ -10,6 +10,7 @@ use lib.Dec.{eqb, leb}
 use lib.ListN.{length, take, drop, drop-of-length-le, take-append-drop}
 use lib.Seq.{drop-drop}
 use Rattle.tables.specs.Choose.{pick}
+use Rattle.tables.proofs.BoolLaws.{picked-both}
 use Rattle.tables.specs.Tables.{flat}
 use Rattle.lex.specs.Token.{Bytes, Token, token, Data, Lexeme, op, num, push, dataLength, dataAt, lexeme, bare, NUMEQUAL, VERIFY}
 use Rattle.instruction.specs.Instruction.{verifyRefused, instructionOf}
@@ -17,7 +18,7 @@ use Rattle.lex.specs.Script.{lexOf, tokens}
 use Rattle.lex.proofs.Derivation.{Gives, done, one, two, derived}
 use Rattle.spelling.specs.Spell.{opcodeByte, hasFused, fusedByte, digits, numberBytes, instructionBytes, verifiedBytes, isVerify, isFusible, fuses, spelling, spell}
 use Rattle.spelling.specs.Lexemes.{Formed, AllFormed, lexemes, ButForNumEqualVerify, none, same, apart, Spells, NoNumEqualVerify}
-use Rattle.spelling.proofs.InstructionSpelling.{both, fused-code, fused-low, lexeme-op, lexeme-num, Canonical, instruction-canonical}
+use Rattle.spelling.proofs.InstructionSpelling.{fused-code, fused-low, lexeme-op, lexeme-num, Canonical, instruction-canonical}
 
 -- ---- what a lexeme says of its token's code
 of-code : (P : Lexeme → Bool) (s : List ℕ) (c v at : ℕ) → ((n : ℕ) → P (num n) ≡ false) → ((k : ℕ) (d : Data) → P (push k d) ≡ false) → P (lexeme s (token c v at)) ≡ true → (lexeme s (token c v at) ≡ op c) × (P (op c) ≡ true)
@@ -37,7 +38,7 @@ verify-code s c v at e = eqb-true c VERIFY (of-code isVerify s c v at (λ n. ref
 fusible-code : (s : List ℕ) (c v at : ℕ) → isFusible (lexeme s (token c v at)) ≡ true → (lexeme s (token c v at) ≡ op c) × (hasFused c ≡ true)
 fusible-code s c v at e = of-code isFusible s c v at (λ n. refl) (λ k d. refl) e
 
-is-verify : (m : Lexeme) → isVerify m ≡ true → m ≡ op VERIFY
+pub is-verify : (m : Lexeme) → isVerify m ≡ true → m ≡ op VERIFY
 is-verify (op c) e = ap op (eqb-true c VERIFY e)
 is-verify (num n) e = absurd (true≢false (sym e))
 is-verify (push c d) e = absurd (true≢false (sym e))
@@ -102,7 +103,7 @@ in-front l (m ∷ ls) bytes only sp = by (fuses l m) refl
           same-bytes = ap (λ (b : List ℕ). instructionBytes l ++ b) (sp .same-bytes);
         }
     by true e =
-        let f : (isFusible l ≡ true) × (isVerify m ≡ true) = both (isFusible l) (isVerify m) e in
+        let f : (isFusible l ≡ true) × (isVerify m ≡ true) = picked-both (isFusible l) (isVerify m) e in
         let n : l ≡ op NUMEQUAL = only (f .0) (f .1) in
         let v : m ≡ op VERIFY = is-verify m (f .1) in
         subst (λ (k : Lexeme). Spells (k ∷ m ∷ ls) (instructionBytes k ++ bytes)) (sym n)

@@ -10,6 +10,7 @@ use lib.Dec.{eqb, leb}
 use lib.ListN.{length, take, drop, getD, length-drop, length-append, length-map, List·getD-append}
 use lib.Seq.{drop-drop, take-at, drop-at}
 use Rattle.tables.specs.Choose.{pick}
+use Rattle.tables.proofs.BoolLaws.{picked-both}
 use Rattle.tables.specs.Tables.{flat}
 use Rattle.instruction.specs.declared.Op.{Op}
 use Rattle.instruction.specs.declared.Op.the-variants.{Push, Sized, Num, One, Fused, Verify, Unlisted}
@@ -28,7 +29,7 @@ use Rattle.lex.proofs.Derivation.{Gives, done, one, two, outcome-of}
 use Rattle.spelling.specs.Spell.{opcodeByte, hasFused, fusedByte, pushBytes, digits, numberBytes, instructionBytes, verifiedBytes, isVerify, isFusible, fuses, spelling, spell}
 use Rattle.spelling.specs.Lexemes.{Formed, AllFormed, lexemes}
 use Rattle.spelling.proofs.NumberSpelling.{Reads, spelled-is-read}
-use Rattle.spelling.proofs.InstructionSpelling.{both, fused-low, lexeme-op, lexeme-num}
+use Rattle.spelling.proofs.InstructionSpelling.{fused-low, lexeme-op, lexeme-num}
 
 -- ---- the opcode table, at each byte of a spelling
 abbrev isOne : ℕ → Op → Bool
@@ -207,11 +208,8 @@ digits-lex n d r last i =
 number-lexes : (n : ℕ) (r : List ℕ) (last : ℕ) → n < 2147483648 → Single (num n) r last
 number-lexes n r last h = by (eqb n 0) (leb n 16) refl refl
   where
-    spelled-zero : 0x00 ∷ [] ≡ numberBytes 0
-    spelled-zero = zero-bytes
-
     by : (x y : Bool) → eqb n 0 ≡ x → leb n 16 ≡ y → Single (num n) r last
-    by true y p q = subst (λ (k : ℕ). Single (num k) r last) (sym (eqb-true n 0 p)) (subst (λ (b : List ℕ). instructionOf (b ++ r) last ≡ gives.One NUM (length b) 0) spelled-zero (zero-number r last))
+    by true y p q = subst (λ (k : ℕ). Single (num k) r last) (sym (eqb-true n 0 p)) (subst (λ (b : List ℕ). instructionOf (b ++ r) last ≡ gives.One NUM (length b) 0) zero-bytes (zero-number r last))
     by false true p q =
         let a : n ≡ 0 → ⊥ = eqb-false n 0 p in
         let b : n ≤ 16 = leb-true n 16 q in
@@ -299,16 +297,19 @@ pub record ReadBack (s : List ℕ) (at last : ℕ) (ls : List Lexeme) : Type 0 w
   pub gives-ts : Gives s at last ts
   pub same-lexemes : map bare (lexemes s ts) ≡ map bare ls
 
-some-bytes : (l : Lexeme) → 1 ≤ length (instructionBytes l)
+pub number-some : (n : ℕ) → 1 ≤ length (numberBytes n)
 unfolding numberBytes
-some-bytes (op c) = omega arith
-some-bytes (num n) = by (eqb n 0) (leb n 16)
+number-some n = by (eqb n 0) (leb n 16)
   where
     by : (x y : Bool) → 1 ≤ length (pick x (0x00 ∷ []) (pick y ((0x50 + n) ∷ []) (pushBytes (digits n))))
     by true y = omega arith
     by false true = omega arith
     by false false = omega arith
-some-bytes (push c d) = omega arith
+
+pub instruction-some : (l : Lexeme) → 1 ≤ length (instructionBytes l)
+instruction-some (op c) = omega arith
+instruction-some (num n) = number-some n
+instruction-some (push c d) = omega arith
 
 module _ (s : List ℕ) where
   one-lexes : (at last : ℕ) (l : Lexeme) (ls : List Lexeme) (r : List ℕ) → at ≤ length s → Formed l → (isVerify l ≡ true → verifyRefused last ≡ false) → drop at s ≡ instructionBytes l ++ r
@@ -317,7 +318,7 @@ module _ (s : List ℕ) where
       let n : ℕ = length (instructionBytes l) in
       let p : length (instructionBytes l ++ r) ≡ length (instructionBytes l) + length r = length-append (instructionBytes l) r in
       let q : length s - at ≡ length (instructionBytes l ++ r) = sym (length-drop at s) ∙ ap length e in
-      let k : 1 ≤ length (instructionBytes l) = some-bytes l in
+      let k : 1 ≤ length (instructionBytes l) = instruction-some l in
       let x : ReadBack s (at + length (instructionBytes l)) (tokenOf l at .code) ls =
       rest (length (instructionBytes l)) (omega arith) (sym (drop-drop (length (instructionBytes l)) at s) ∙ ap (drop (length (instructionBytes l))) e ∙ drop-at (instructionBytes l) r (length (instructionBytes l)) refl) in
       by l e f v x (omega arith)
@@ -352,11 +353,11 @@ module _ (s : List ℕ) where
       → ((at last : ℕ) → at ≤ length s → Open last (m ∷ ls) → drop at s ≡ flat (spelling (m ∷ ls)) → ReadBack s at last (m ∷ ls))
       → (b : Bool) → fuses l m ≡ b → drop at s ≡ flat (pick b (verifiedBytes l ∷ spelling ls) (instructionBytes l ∷ spelling (m ∷ ls))) → ReadBack s at last (l ∷ m ∷ ls)
   next-lexes at last (op c) (op k) ls f w o after-both after-one true e p =
-      let q : (hasFused c ≡ true) × (eqb k VERIFY ≡ true) = both (hasFused c) (eqb k VERIFY) e in
+      let q : (hasFused c ≡ true) × (eqb k VERIFY ≡ true) = picked-both (hasFused c) (eqb k VERIFY) e in
       subst (λ (j : ℕ). ReadBack s at last (op c ∷ op j ∷ ls)) (sym (eqb-true k VERIFY (q .1)))
       (fused-lexes at last c ls (flat (spelling ls)) w (q .0) p (λ h g. after-both (at + 1) VERIFY h (λ _. verify-not-refused) g))
-  next-lexes at last (op c) (num k) ls f w o after-both after-one true e p = absurd (true≢false (sym (both (hasFused c) false e .1)))
-  next-lexes at last (op c) (push k d) ls f w o after-both after-one true e p = absurd (true≢false (sym (both (hasFused c) false e .1)))
+  next-lexes at last (op c) (num k) ls f w o after-both after-one true e p = absurd (true≢false (sym (picked-both (hasFused c) false e .1)))
+  next-lexes at last (op c) (push k d) ls f w o after-both after-one true e p = absurd (true≢false (sym (picked-both (hasFused c) false e .1)))
   next-lexes at last (num n) m ls f w o after-both after-one true e p = absurd (true≢false (sym e))
   next-lexes at last (push c d) m ls f w o after-both after-one true e p = absurd (true≢false (sym e))
   next-lexes at last l m ls f w o after-both after-one false e p =

@@ -1,11 +1,11 @@
 -- What the runs of Sound, Complete and Bound say of `decode` with table limits: it accepts only what is written with its tokens; with ample limits it accepts what a run without limits ends in; it never runs out of its bound; it counts the entries taken.
 use mathlib.Core.Path.{_≡_, refl, sym, ap, _∙_}
 use mathlib.Core.Bool.{Bool, true, false, _&&_, _||_, true≢false}
-use mathlib.Core.List.{List, [], _∷_, _++_, reverseAux}
+use mathlib.Core.List.{List, [], _∷_, reverseAux, reverse-reverse}
 use Prim.Native.Nat.{ℕ, zero, suc, _+_, _*_, _≤_, _<_}
 use native.Mathlib.Omega.{arith}
 use lib.Dec.{leb}
-use lib.ListN.{length}
+use lib.ListN.{length, length-reverseAux}
 use borrow.Author.Tests.{leb-true, le-leb}
 use Rattle.correctness.specs.declared.Correctness.{Correctness}
 use Rattle.correctness.specs.declared.Typed.{Typed}
@@ -265,21 +265,6 @@ module _ (segwit : Bool) (limits other : Limits) (t d : ℕ) (h : Ample limits t
 
 -- Tokens in script order and as they are read
 
-reversed : (a b c : List Lexeme) → reverseAux (reverseAux a b) c ≡ reverseAux b (a ++ c)
-reversed [] b c = refl
-reversed (t ∷ a) b c = reversed a (t ∷ b) c
-
-append-nil : (l : List Lexeme) → l ++ [] ≡ l
-append-nil [] = refl
-append-nil (t ∷ l) = ap (λ x. t ∷ x) (append-nil l)
-
-pub twice-reversed : (l : List Lexeme) → reverseAux (reverseAux l []) [] ≡ l
-twice-reversed l = reversed l [] [] ∙ append-nil l
-
-length-reversed : (a b : List Lexeme) → length (reverseAux a b) ≡ length a + length b
-length-reversed [] b = omega arith
-length-reversed (t ∷ a) b = omega (arith, length-reversed a (t ∷ b))
-
 pushes-reversed : (a b : List Lexeme) → pushes (reverseAux a b) ≡ pushes a + pushes b
 pushes-reversed [] b = omega arith
 pushes-reversed (t ∷ a) b = omega (arith, pushes-reversed a (t ∷ b))
@@ -294,10 +279,10 @@ module _ (segwit : Bool) (limits : Limits) (lexemes : List Lexeme) where
   start-bounded : Bounded (length lexemes) (pushes lexemes) 0 begun
   start-bounded =
       let b = begin-bounded left in
-      (omega (arith, b .0, length-reversed lexemes []), omega (arith, b .1, length-reversed lexemes []), omega (arith, b .2, pushes-reversed lexemes []))
+      (omega (arith, b .0, length-reverseAux lexemes []), omega (arith, b .1, length-reverseAux lexemes []), omega (arith, b .2, pushes-reversed lexemes []))
 
   good : Good segwit lexemes begun
-  good = start-good segwit lexemes left (twice-reversed lexemes)
+  good = start-good segwit lexemes left (reverse-reverse lexemes)
 
   -- every run ends: in a tree of base B that is written with its tokens, well typed and allowed, or in a refusal with a number from 9 to 19
   pub decode-ends : Ends segwit lexemes (decode segwit limits lexemes .verdict)

@@ -2,7 +2,7 @@
 -- Why: a tree is read as an expression with no and_v before it (`Core`), or as a chain of such (`Parsed`). c:, v:, n: and and_b's first child let the chain float out, with the same type (laws 4 and 5); the first child of or_b, or_d, or_c, and_or and thresh is dissatisfiable, so it has no chain (laws 2 and 3). The rest is walking the rows.
 use mathlib.Core.Path.{_≡_, refl, sym, ap, _∙_}
 use mathlib.Core.Bool.{Bool, true, false, _&&_, true≢false}
-use mathlib.Core.List.{List, [], _∷_, _++_, reverseAux}
+use mathlib.Core.List.{List, [], _∷_, _++_, reverseAux, append-nil, reverseAux-append}
 use Prim.Native.Nat.{ℕ, suc, _+_}
 use native.Mathlib.Omega.{arith}
 use lib.Dec.{eqb, leb}
@@ -14,9 +14,11 @@ use Rattle.correctness.specs.declared.Typed.the-variants.{Is, Not}
 use Rattle.base_input.specs.Tests.{isW}
 use Rattle.correctness.specs.Rules as rules
 use Rattle.correctness.specs.Rules.{onward}
+use Rattle.correctness.specs.AndVLaws.{and-v-not-dissatisfiable}
 use Rattle.lex.specs.Token.{Data, Lexeme, op, num, push}
 use Rattle.lex.specs.Token.{BOOLAND, BOOLOR, ADD, EQUAL, NUMEQUAL, CHECKSIG, CHECKSIGADD, CHECKMULTISIG, CHECKSEQUENCEVERIFY, CHECKLOCKTIMEVERIFY, FROMALTSTACK, TOALTSTACK, DUP, IF, IFDUP, NOTIF, ELSE, ENDIF, ZERONOTEQUAL, SIZE, SWAP, VERIFY, HASH160, HASH20, BYTES32, BYTES33}
 use Rattle.tables.specs.Choose.{pick}
+use Rattle.tables.proofs.BoolLaws.{left-true, right-true}
 use Rattle.standard.specs.Tree.{Key, key, Hash, sha256, hash256, ripemd160, hash160, Leaf, True, False, PkK, RawPkH, After, Older, HashLock, Multi, MultiA, Wrapper, alt, swap, check, dupIf, verify, nonZero, zeroNotEqual, Combination, andV, andB, orB, orD, orC, orI, Tree, Trees, leaf, wrap, join, andOr, thresh, nil, _⊳_, many, _⊕_, isAndVTree, leftNested}
 use Rattle.standard.specs.RowForm.{floats, floatedOut, rowForm}
 use Rattle.standard.specs.FormLaws.{allRowForm, wrap-form, join-form, and-or-form, thresh-form, all-form, wrap-form-parts, join-form-parts, and-or-form-parts, thresh-form-parts, all-form-parts}
@@ -24,9 +26,9 @@ use Rattle.standard.specs.Written.{keyPush, hashOpcode, hashPush, keysBe
 use Rattle.standard.specs.Allowed.{within, keyForm, multiKey, multiAKey, allMultiKeys, allMultiAKeys, multiCount, multiAThreshold, allowedLeaf, threshAllowed, allowed, allAllowed}
 use Rattle.standard.specs.Types.{wrapperRule, combinationRule, AllTyped, all, not-all, andThen, ruled, typeOf, typesOf, typedLeaf, passes, judge}
 use Rattle.standard.specs.Rows.{NonTerm, Expression, WExpression, MaybeAndV, AndV, Alt, Swap, EndIf, EndIfNotIf, EndIfElse, Tern, Reduce1, Reduce2, ThreshW, ThreshE, Check, Verify, ZeroNotEqual, OrC, OrD, multiKeys, multiAKeys, inWExpression, inEndIfNotIf, inThreshW, afterVerify, putBack, actAt, isAndV, readFrom}
-use Rattle.standard.specs.Machine.{Next, goesOn, finish, step}
+use Rattle.standard.specs.Machine.{Next, goesOn, step}
 use Rattle.standard.specs.Sound.{take-all}
-use Rattle.standard.specs.RuleLaws.{and-left, and-right, onward-is, givesW, takesW, wrapper-bases, combination-bases, and-or-bases, AllW, threshold-bases, leaf-base, first-dissatisfiable, and-or-dissatisfiable, and-v-not-dissatisfiable, and-v-associative, wrapper-floats, and-b-floats}
+use Rattle.standard.specs.RuleLaws.{onward-is, givesW, takesW, wrapper-bases, combination-bases, and-or-bases, AllW, threshold-bases, leaf-base, first-dissatisfiable, and-or-dissatisfiable, and-v-associative, wrapper-floats, and-b-floats}
 use Rattle.standard.specs.Runs as runs
 use Rattle.standard.specs.Runs.{begin}
 
@@ -82,15 +84,11 @@ leaf-reversed (HashLock h d) rest left = refl
 leaf-reversed (Multi k ks) rest left = keys-reversed ks _ (num k ∷ left)
 leaf-reversed (MultiA k d ds) rest left = added-keys-reversed ds _ (op CHECKSIG ∷ push BYTES32 d ∷ left)
 
-reversed-append : (a rest left : List Lexeme) → reverseAux (a ++ rest) left ≡ reverseAux rest (reverseAux a left)
-reversed-append [] rest left = refl
-reversed-append (t ∷ a) rest left = reversed-append a rest (t ∷ left)
-
 mutual
   pub tree-reversed : (t : Tree) (rest left : List Lexeme) → reverseAux (treeBefore t rest) left ≡ reverseAux rest (treeRead t left)
   tree-reversed (leaf l) rest left = leaf-reversed l rest left
-  tree-reversed (wrap w x) rest left = reversed-append (opening w) _ left ∙ tree-reversed x _ _ ∙ reversed-append (closing w) rest _
-  tree-reversed (join c x y) rest left = reversed-append (first c) _ left ∙ tree-reversed x _ _ ∙ reversed-append (between c) _ _ ∙ tree-reversed y _ _ ∙ reversed-append (last c) rest _
+  tree-reversed (wrap w x) rest left = reverseAux-append (opening w) _ left ∙ tree-reversed x _ _ ∙ reverseAux-append (closing w) rest _
+  tree-reversed (join c x y) rest left = reverseAux-append (first c) _ left ∙ tree-reversed x _ _ ∙ reverseAux-append (between c) _ _ ∙ tree-reversed y _ _ ∙ reverseAux-append (last c) rest _
   tree-reversed (andOr x y z) rest left = tree-reversed x _ left ∙ tree-reversed z _ _ ∙ tree-reversed y _ _
   tree-reversed (thresh k x xs) rest left = tree-reversed x _ left ∙ added-trees-reversed xs _ _
 
@@ -116,10 +114,6 @@ chain-append : (us vs : Trees) (left : List Lexeme) → chainRead (_⊕_ us vs) 
 chain-append nil vs left = refl
 chain-append (u ⊳ us) vs left = ap (treeRead u) (chain-append us vs left)
 
-append-nil : {A : Type 0} (l : List A) → l ++ [] ≡ l
-append-nil [] = refl
-append-nil (x ∷ l) = ap (λ t. x ∷ t) (append-nil l)
-
 module _ (segwit : Bool) where
   abbrev Reach : Next → Next → Type 0
   Reach a b = runs.Reach segwit a b
@@ -133,9 +127,6 @@ module _ (segwit : Bool) where
   infixr 40 _⨾_
   _⨾_ : {a b c : Next} → Reach a b → Reach b c → Reach a c
   _⨾_ p q = runs.then segwit p q
-
-  made : {work : List NonTerm} {left : List Lexeme} {done : Trees} {b : Next} (t : Tree) → judge segwit t ≡ passes → Reach (goesOn work left (t ⊳ done)) b → Reach (finish segwit t work left done) b
-  made t e p = runs.made segwit t e p
 
   -- A token that ends an expression: and_v may go on before it, and it is no FROMALTSTACK, no IFDUP and no ADD
   abbrev Fine : Lexeme → Type 0
@@ -220,13 +211,13 @@ module _ (segwit : Bool) where
   chain-run : (us : Trees) → Cores us → (v y : Tree) (c : Correctness) → typeOf segwit (join andV (chain us v) y) ≡ Is c
       → (work : List NonTerm) (left : List Lexeme) (done : Trees) → isAndV left ≡ false
       → Reach (goesOn (AndV ∷ work) (chainRead us left) (v ⊳ (y ⊳ done))) (goesOn work left (join andV (chain us v) y ⊳ done))
-  chain-run nil cs v y c e work left done stop = later (rw stop (made (join andV v y) (join-passes andV v y c e) at-once))
+  chain-run nil cs v y c e work left done stop = later (rw stop (runs.made segwit (join andV v y) (join-passes andV v y c e) at-once))
   chain-run (u ⊳ us) cs v y c e work left done stop =
       let h = join-parts andV (join andV (chain us u) v) y c e in
       let on : isAndV (treeRead u (chainRead us left)) ≡ true = goes-on (cs .0) (chainRead us left) in
       later (rw on (later (rw on at-once))) ⨾ cs .0 .runs (AndV ∷ AndV ∷ work) (chainRead us left) (v ⊳ (y ⊳ done))
       ⨾ chain-run us (cs .1) u v (h .0) (h .2) (AndV ∷ work) left (y ⊳ done) stop
-      ⨾ later (rw stop (made (join andV (chain (u ⊳ us) v) y) (join-passes andV (chain (u ⊳ us) v) y c e) at-once))
+      ⨾ later (rw stop (runs.made segwit (join andV (chain (u ⊳ us) v) y) (join-passes andV (chain (u ⊳ us) v) y c e) at-once))
 
   canon-run : (us : Trees) → Cores us → (x : Tree) (c : Correctness) → typeOf segwit (chain us x) ≡ Is c → (work : List NonTerm) (left : List Lexeme) (done : Trees) → isAndV left ≡ false
       → Reach (goesOn (MaybeAndV ∷ work) (chainRead us left) (x ⊳ done)) (goesOn work left (chain us x ⊳ done))
@@ -290,7 +281,7 @@ module _ (segwit : Bool) where
 
   -- Leaves
 
-  leaf-passes : (l : Leaf) → allowedLeaf segwit l ≡ true → judge segwit (leaf l) ≡ passes
+  pub leaf-passes : (l : Leaf) → allowedLeaf segwit l ≡ true → judge segwit (leaf l) ≡ passes
   leaf-passes l g = rw g
 
   abbrev leafType : Leaf → Correctness
@@ -301,61 +292,61 @@ module _ (segwit : Bool) where
   plain-leaf l e r en f back rn = alone (leaf l) (leaf l) (leafType l) (plain (leaf l) (leafType l) e r refl en f back refl refl rn) refl (λ left. refl) (λ f. refl)
 
   key-code : (z : Bool) (code : ℕ) (d : Data) → keyForm z (key code d) ≡ true → code ≡ pick z BYTES33 BYTES32
-  key-code true code d g = eqb-true code BYTES33 (and-left (eqb code BYTES33) _ g)
+  key-code true code d g = eqb-true code BYTES33 (left-true (eqb code BYTES33) _ g)
   key-code false code d g = eqb-true code BYTES32 g
 
   key-at : (z : Bool) (code : ℕ) (d : Data) → code ≡ pick z BYTES33 BYTES32 → keyForm segwit (key code d) ≡ true → (work : List NonTerm) (left : List Lexeme) (done : Trees)
       → Reach (goesOn (Expression ∷ work) (push code d ∷ left) done) (goesOn work left (leaf (PkK (key code d)) ⊳ done))
-  key-at true code d e g work left done = rw e (later (made (leaf (PkK (key BYTES33 d))) (leaf-passes (PkK (key BYTES33 d)) (rw e at g)) at-once))
-  key-at false code d e g work left done = rw e (later (made (leaf (PkK (key BYTES32 d))) (leaf-passes (PkK (key BYTES32 d)) (rw e at g)) at-once))
+  key-at true code d e g work left done = rw e (later (runs.made segwit (leaf (PkK (key BYTES33 d))) (leaf-passes (PkK (key BYTES33 d)) (rw e at g)) at-once))
+  key-at false code d e g work left done = rw e (later (runs.made segwit (leaf (PkK (key BYTES32 d))) (leaf-passes (PkK (key BYTES32 d)) (rw e at g)) at-once))
 
   key-run : (code : ℕ) (d : Data) → keyForm segwit (key code d) ≡ true → (work : List NonTerm) (left : List Lexeme) (done : Trees)
       → Reach (goesOn (Expression ∷ work) (push code d ∷ left) done) (goesOn work left (leaf (PkK (key code d)) ⊳ done))
   key-run code d g work left done = key-at segwit code d (key-code segwit code d g) g work left done
 
   segwit-key : (z : Bool) (code : ℕ) (d : Data) → (z && keyForm z (key code d)) ≡ true → code ≡ BYTES33
-  segwit-key true code d g = eqb-true code BYTES33 (and-left (eqb code BYTES33) _ g)
+  segwit-key true code d g = eqb-true code BYTES33 (left-true (eqb code BYTES33) _ g)
   segwit-key false code d g = absurd (true≢false (sym g))
 
   keys-run : (ks acc : List Key) (n : ℕ) (left : List Lexeme) → allMultiKeys segwit ks ≡ true → readFrom segwit (multiKeys (n + length ks) acc) (keysRead ks left) ≡ readFrom segwit (multiKeys n (ks ++ acc)) left
   keys-run [] acc n left g = let e : n + 0 ≡ n = omega arith in ap (λ (m : ℕ). readFrom segwit (multiKeys m acc) left) e
   keys-run (key code d ∷ ks) acc n left g =
       let e : n + length (key code d ∷ ks) ≡ suc n + length ks = omega arith in
-      let g1 : multiKey segwit (key code d) ≡ true = and-left (multiKey segwit (key code d)) (allMultiKeys segwit ks) g in
+      let g1 : multiKey segwit (key code d) ≡ true = left-true (multiKey segwit (key code d)) (allMultiKeys segwit ks) g in
       let is33 = segwit-key segwit code d g1 in
       let g33 : multiKey segwit (key BYTES33 d) ≡ true = rw is33 at g1 in
       let one-key : readFrom segwit (multiKeys (suc n) (ks ++ acc)) (push BYTES33 d ∷ left) ≡ readFrom segwit (multiKeys n (key BYTES33 d ∷ (ks ++ acc))) left = rw g33 in
       ap (λ (m : ℕ). readFrom segwit (multiKeys m acc) (keysRead ks (push code d ∷ left))) e
-      ∙ keys-run ks acc (suc n) (push code d ∷ left) (and-right (multiKey segwit (key code d)) (allMultiKeys segwit ks) g)
+      ∙ keys-run ks acc (suc n) (push code d ∷ left) (right-true (multiKey segwit (key code d)) (allMultiKeys segwit ks) g)
       ∙ rw is33 one-key
 
   added-keys-run : (ds acc : List Data) (k : ℕ) (left : List Lexeme) → allMultiAKeys segwit ds ≡ true → readFrom segwit (multiAKeys k acc) (addedKeysRead ds left) ≡ readFrom segwit (multiAKeys k (ds ++ acc)) left
   added-keys-run [] acc k left g = refl
   added-keys-run (d ∷ ds) acc k left g =
-      let g1 : multiAKey segwit d ≡ true = and-left (multiAKey segwit d) (allMultiAKeys segwit ds) g in
+      let g1 : multiAKey segwit d ≡ true = left-true (multiAKey segwit d) (allMultiAKeys segwit ds) g in
       let one-key : readFrom segwit (multiAKeys k (ds ++ acc)) (op CHECKSIGADD ∷ push BYTES32 d ∷ left) ≡ readFrom segwit (multiAKeys k (d ∷ (ds ++ acc))) left = rw g1 in
-      added-keys-run ds acc k (op CHECKSIGADD ∷ push BYTES32 d ∷ left) (and-right (multiAKey segwit d) (allMultiAKeys segwit ds) g) ∙ one-key
+      added-keys-run ds acc k (op CHECKSIGADD ∷ push BYTES32 d ∷ left) (right-true (multiAKey segwit d) (allMultiAKeys segwit ds) g) ∙ one-key
 
   multi-run : (k : ℕ) (ks : List Key) → allowedLeaf segwit (Multi k ks) ≡ true → (work : List NonTerm) (left : List Lexeme) (done : Trees)
       → Reach (goesOn (Expression ∷ work) (leafRead (Multi k ks) left) done) (goesOn work left (leaf (Multi k ks) ⊳ done))
   multi-run k ks g work left done =
-      let g1 : multiCount (length ks) ≡ true = and-left (multiCount (length ks)) (allMultiKeys segwit ks && within 1 k (length ks)) g in
-      let g2 : allMultiKeys segwit ks ≡ true = and-left (allMultiKeys segwit ks) (within 1 k (length ks)) (and-right (multiCount (length ks)) (allMultiKeys segwit ks && within 1 k (length ks)) g) in
+      let g1 : multiCount (length ks) ≡ true = left-true (multiCount (length ks)) (allMultiKeys segwit ks && within 1 k (length ks)) g in
+      let g2 : allMultiKeys segwit ks ≡ true = left-true (allMultiKeys segwit ks) (within 1 k (length ks)) (right-true (multiCount (length ks)) (allMultiKeys segwit ks && within 1 k (length ks)) g) in
       let z : 0 + length ks ≡ length ks = omega arith in
       let e : readFrom segwit (multiKeys (length ks) []) (keysRead ks (num k ∷ left)) ≡ readFrom segwit (multiKeys 0 ks) (num k ∷ left) =
       ap (λ (m : ℕ). readFrom segwit (multiKeys m []) (keysRead ks (num k ∷ left))) (sym z) ∙ keys-run ks [] 0 (num k ∷ left) g2 ∙ ap (λ (l : List Key). readFrom segwit (multiKeys 0 l) (num k ∷ left)) (append-nil ks) in
-      later (rw (g1, e) (made (leaf (Multi k ks)) (leaf-passes (Multi k ks) g) at-once))
+      later (rw (g1, e) (runs.made segwit (leaf (Multi k ks)) (leaf-passes (Multi k ks) g) at-once))
 
   multi-a-run : (k : ℕ) (d : Data) (ds : List Data) → allowedLeaf segwit (MultiA k d ds) ≡ true → (work : List NonTerm) (left : List Lexeme) (done : Trees)
       → Reach (goesOn (Expression ∷ work) (leafRead (MultiA k d ds) left) done) (goesOn work left (leaf (MultiA k d ds) ⊳ done))
   multi-a-run k d ds g work left done =
       let r = leb k (suc (length ds)) && leb (suc (length ds)) 999 in
-      let g1 : multiAThreshold k ≡ true = and-left (multiAThreshold k) (allMultiAKeys segwit (d ∷ ds) && r) g in
-      let g2 : allMultiAKeys segwit (d ∷ ds) ≡ true = and-left (allMultiAKeys segwit (d ∷ ds)) r (and-right (multiAThreshold k) (allMultiAKeys segwit (d ∷ ds) && r) g) in
-      let g3 : multiAKey segwit d ≡ true = and-left (multiAKey segwit d) (allMultiAKeys segwit ds) g2 in
+      let g1 : multiAThreshold k ≡ true = left-true (multiAThreshold k) (allMultiAKeys segwit (d ∷ ds) && r) g in
+      let g2 : allMultiAKeys segwit (d ∷ ds) ≡ true = left-true (allMultiAKeys segwit (d ∷ ds)) r (right-true (multiAThreshold k) (allMultiAKeys segwit (d ∷ ds) && r) g) in
+      let g3 : multiAKey segwit d ≡ true = left-true (multiAKey segwit d) (allMultiAKeys segwit ds) g2 in
       let e : readFrom segwit (multiAKeys k []) (addedKeysRead ds (op CHECKSIG ∷ push BYTES32 d ∷ left)) ≡ readFrom segwit (multiAKeys k ds) (op CHECKSIG ∷ push BYTES32 d ∷ left) =
-      added-keys-run ds [] k (op CHECKSIG ∷ push BYTES32 d ∷ left) (and-right (multiAKey segwit d) (allMultiAKeys segwit ds) g2) ∙ ap (λ (l : List Data). readFrom segwit (multiAKeys k l) (op CHECKSIG ∷ push BYTES32 d ∷ left)) (append-nil ds) in
-      later (rw (g1, e, g3) (made (leaf (MultiA k d ds)) (leaf-passes (MultiA k d ds) g) at-once))
+      added-keys-run ds [] k (op CHECKSIG ∷ push BYTES32 d ∷ left) (right-true (multiAKey segwit d) (allMultiAKeys segwit ds) g2) ∙ ap (λ (l : List Data). readFrom segwit (multiAKeys k l) (op CHECKSIG ∷ push BYTES32 d ∷ left)) (append-nil ds) in
+      later (rw (g1, e, g3) (runs.made segwit (leaf (MultiA k d ds)) (leaf-passes (MultiA k d ds) g) at-once))
 
   -- a hash lock ends in EQUAL; under VERIFY its own rows read it
   hash-runs : (h : Hash) (d : Data) (work : List NonTerm) (left : List Lexeme) (done : Trees) → Reach (goesOn (Expression ∷ work) (leafRead (HashLock h d) left) done) (goesOn work left (leaf (HashLock h d) ⊳ done))
@@ -390,8 +381,8 @@ module _ (segwit : Bool) where
   leaf-par False g = plain-leaf False (num 0) (λ left. left) (λ left. refl) (λ left. refl, refl, refl, λ k n. refl) refl (λ work left done. later at-once)
   leaf-par (PkK (key code d)) g = plain-leaf (PkK (key code d)) (push code d) (λ left. left) (λ left. refl) (λ left. refl, refl, refl, λ k n. refl) refl (key-run code d g)
   leaf-par (RawPkH d) g = plain-leaf (RawPkH d) (op VERIFY) (λ left. op EQUAL ∷ push HASH20 d ∷ op HASH160 ∷ op DUP ∷ left) (λ left. refl) (λ left. refl, refl, refl, λ k n. refl) refl (λ work left done. later at-once)
-  leaf-par (After n) g = plain-leaf (After n) (op CHECKLOCKTIMEVERIFY) (λ left. num n ∷ left) (λ left. refl) (λ left. refl, refl, refl, λ k n. refl) refl (λ work left done. later (made (leaf (After n)) (leaf-passes (After n) g) at-once))
-  leaf-par (Older n) g = plain-leaf (Older n) (op CHECKSEQUENCEVERIFY) (λ left. num n ∷ left) (λ left. refl) (λ left. refl, refl, refl, λ k n. refl) refl (λ work left done. later (made (leaf (Older n)) (leaf-passes (Older n) g) at-once))
+  leaf-par (After n) g = plain-leaf (After n) (op CHECKLOCKTIMEVERIFY) (λ left. num n ∷ left) (λ left. refl) (λ left. refl, refl, refl, λ k n. refl) refl (λ work left done. later (runs.made segwit (leaf (After n)) (leaf-passes (After n) g) at-once))
+  leaf-par (Older n) g = plain-leaf (Older n) (op CHECKSEQUENCEVERIFY) (λ left. num n ∷ left) (λ left. refl) (λ left. refl, refl, refl, λ k n. refl) refl (λ work left done. later (runs.made segwit (leaf (Older n)) (leaf-passes (Older n) g) at-once))
   leaf-par (HashLock h d) g = alone (leaf (HashLock h d)) (leaf (HashLock h d)) (leafType (HashLock h d)) (hash-core h d) refl (λ left. refl) (λ f. refl)
   leaf-par (Multi k ks) g = plain-leaf (Multi k ks) (op CHECKMULTISIG) (λ left. num (length ks) ∷ keysRead ks (num k ∷ left)) (λ left. refl) (λ left. refl, refl, refl, λ k n. refl) refl (multi-run k ks g)
   leaf-par (MultiA k d ds) g = plain-leaf (MultiA k d ds) (op NUMEQUAL) (λ left. num k ∷ addedKeysRead ds (op CHECKSIG ∷ push BYTES32 d ∷ left)) (λ left. refl) (λ left. refl, refl, refl, λ k n. refl) refl (multi-a-run k d ds g)
@@ -429,15 +420,15 @@ module _ (segwit : Bool) where
 
   core-check : (x : Tree) (z : Correctness) → Core x → typeOf segwit (wrap check x) ≡ Is z → Core (wrap check x)
   core-check x z c e = plain (wrap check x) z (op CHECKSIG) (treeRead x) e (λ left. refl) (λ left. refl, refl, refl, λ k n. refl) refl refl (wrap-form check x (c .single) (c .form))
-      (λ work left done. later (c .runs (Check ∷ work) left done) ⨾ later (made (wrap check x) (wrap-passes check x z e) at-once))
+      (λ work left done. later (c .runs (Check ∷ work) left done) ⨾ later (runs.made segwit (wrap check x) (wrap-passes check x z e) at-once))
 
   core-zero-not-equal : (x : Tree) (z : Correctness) → Core x → typeOf segwit (wrap zeroNotEqual x) ≡ Is z → Core (wrap zeroNotEqual x)
   core-zero-not-equal x z c e = plain (wrap zeroNotEqual x) z (op ZERONOTEQUAL) (treeRead x) e (λ left. refl) (λ left. refl, refl, refl, λ k n. refl) refl refl (wrap-form zeroNotEqual x (c .single) (c .form))
-      (λ work left done. later (c .runs (ZeroNotEqual ∷ work) left done) ⨾ later (made (wrap zeroNotEqual x) (wrap-passes zeroNotEqual x z e) at-once))
+      (λ work left done. later (c .runs (ZeroNotEqual ∷ work) left done) ⨾ later (runs.made segwit (wrap zeroNotEqual x) (wrap-passes zeroNotEqual x z e) at-once))
 
   core-verify : (x : Tree) (z : Correctness) → Core x → typeOf segwit (wrap verify x) ≡ Is z → Core (wrap verify x)
   core-verify x z c e = plain (wrap verify x) z (op VERIFY) (treeRead x) e (λ left. refl) (λ left. refl, refl, refl, λ k n. refl) refl refl (wrap-form verify x (c .single) (c .form))
-      (λ work left done. c .verified work left done ⨾ later (made (wrap verify x) (wrap-passes verify x z e) at-once))
+      (λ work left done. c .verified work left done ⨾ later (runs.made segwit (wrap verify x) (wrap-passes verify x z e) at-once))
 
   -- d: and j:
   core-if : (w : Wrapper) → floats w ≡ false → (t : Tree) (c r : Correctness) (p : List Lexeme → List Lexeme) (k : Canon t c) → typeOf segwit (wrap w (k .x)) ≡ Is r
@@ -446,7 +437,7 @@ module _ (segwit : Bool) where
   core-if w n t c r p k te en next = plain (wrap w (k .x)) r (op ENDIF) (λ left. treeRead (k .x) (op IF ∷ p left)) te en (λ left. refl, refl, refl, λ k n. refl) refl refl (wrap-form w (k .x) (rw n) (k .form))
       (λ work left done.
       let p1 : Reach (goesOn (Expression ∷ work) (treeRead (wrap w (k .x)) left) done) (goesOn (EndIf ∷ work) (op IF ∷ p left) (k .x ⊳ done)) = rw (en left) (later (k .runs (EndIf ∷ work) (op IF ∷ p left) done refl)) in
-      let p2 : Reach (goesOn (EndIf ∷ work) (op IF ∷ p left) (k .x ⊳ done)) (goesOn work left (wrap w (k .x) ⊳ done)) = later (rw (next work left (k .x ⊳ done)) (later (made (wrap w (k .x)) (wrap-passes w (k .x) r te) at-once))) in
+      let p2 : Reach (goesOn (EndIf ∷ work) (op IF ∷ p left) (k .x ⊳ done)) (goesOn work left (wrap w (k .x) ⊳ done)) = later (rw (next work left (k .x ⊳ done)) (later (runs.made segwit (wrap w (k .x)) (wrap-passes w (k .x) r te) at-once))) in
       p1 ⨾ p2)
 
   wrap-kept : (w : Wrapper) (t : Tree) (c : Correctness) (k : Canon t c) → rowForm (wrap w t) ≡ true → wrap w (k .x) ≡ wrap w t
@@ -458,7 +449,7 @@ module _ (segwit : Bool) where
       record {
         x = wrap alt (k .x);
         typed = te;
-        runs = λ work left done. later (k .runs (Alt ∷ work) (op TOALTSTACK ∷ left) done refl) ⨾ later (made (wrap alt (k .x)) (wrap-passes alt (k .x) r te) at-once);
+        runs = λ work left done. later (k .runs (Alt ∷ work) (op TOALTSTACK ∷ left) done refl) ⨾ later (runs.made segwit (wrap alt (k .x)) (wrap-passes alt (k .x) r te) at-once);
         form = wrap-form alt (k .x) refl (k .form);
         reads = λ left. ap (λ l. op FROMALTSTACK ∷ l) (k .reads (op TOALTSTACK ∷ left));
         kept = wrap-kept alt t c k;
@@ -472,7 +463,7 @@ module _ (segwit : Bool) where
       record {
         x = wrap swap (k .x);
         typed = te;
-        runs = λ work left done. back work left done ⨾ later (made (wrap swap (k .x)) (wrap-passes swap (k .x) r te) at-once);
+        runs = λ work left done. back work left done ⨾ later (runs.made segwit (wrap swap (k .x)) (wrap-passes swap (k .x) r te) at-once);
         form = wrap-form swap (k .x) refl (k .form);
         reads = λ left. k .reads (op SWAP ∷ left);
         kept = wrap-kept swap t c k;
@@ -554,7 +545,7 @@ module _ (segwit : Bool) where
       (λ work left done.
       let p1 : Reach (goesOn (Expression ∷ work) (treeRead (join k x y) left) done) (goesOn (Expression ∷ Reduce2 k ∷ work) (treeRead x left) (y ⊳ done)) =
       rw (en left) (later (rw (next work (treeRead y (treeRead x left)) done) (ry (Expression ∷ Reduce2 k ∷ work) (treeRead x left) done))) in
-      p1 ⨾ c .runs (Reduce2 k ∷ work) left (y ⊳ done) ⨾ later (made (join k x y) (join-passes k x y z te) at-once))
+      p1 ⨾ c .runs (Reduce2 k ∷ work) left (y ⊳ done) ⨾ later (runs.made segwit (join k x y) (join-passes k x y z te) at-once))
 
   and-b-par : (a b : Tree) (c d r : Correctness) → combinationRule andB c d ≡ Is r → Parsed a c → WParsed b d → Parsed (join andB a b) r
   and-b-par a b c d r f p q =
@@ -584,7 +575,7 @@ module _ (segwit : Bool) where
       let te = join-typed orD (p .0) (q .x) c d r (p .2) (q .typed) f in
       alone (join orD a b) (join orD (p .0) (q .x)) r
       (plain _ r (op ENDIF) (λ left. treeRead (q .x) (op NOTIF ∷ op IFDUP ∷ treeRead (p .0) left)) te (λ left. refl) (λ left. refl, refl, refl, λ k n. refl) refl refl (join-form orD (p .0) (q .x) (p .1 .single) refl (p .1 .form) (q .form))
-      (λ work left done. later (q .runs (EndIf ∷ work) (op NOTIF ∷ op IFDUP ∷ treeRead (p .0) left) done refl) ⨾ later (later (p .1 .runs (OrD ∷ work) left (q .x ⊳ done))) ⨾ later (made (join orD (p .0) (q .x)) (join-passes orD (p .0) (q .x) r te) at-once))) te
+      (λ work left done. later (q .runs (EndIf ∷ work) (op NOTIF ∷ op IFDUP ∷ treeRead (p .0) left) done refl) ⨾ later (later (p .1 .runs (OrD ∷ work) left (q .x ⊳ done))) ⨾ later (runs.made segwit (join orD (p .0) (q .x)) (join-passes orD (p .0) (q .x) r te) at-once))) te
       (λ left. ap (λ l. op ENDIF ∷ l) (q .reads (op NOTIF ∷ op IFDUP ∷ treeRead a left) ∙ ap (λ l. treeRead (q .x) (op NOTIF ∷ op IFDUP ∷ l)) (p .3 left))) (join-kept orD a b (p .0) (q .x) (p .4) (q .kept))
 
   or-c-par : (a b : Tree) (c d r : Correctness) → combinationRule orC c d ≡ Is r → Solo a c → Canon b d → Parsed (join orC a b) r
@@ -594,7 +585,7 @@ module _ (segwit : Bool) where
       λ work left done. later (rw (p .1 .ends left, p .1 .fine .2) (rw (p .1 .ends left) at (p .1 .runs (OrC ∷ work) left done))) in
       alone (join orC a b) (join orC (p .0) (q .x)) r
       (plain _ r (op ENDIF) (λ left. treeRead (q .x) (op NOTIF ∷ treeRead (p .0) left)) te (λ left. refl) (λ left. refl, refl, refl, λ k n. refl) refl refl (join-form orC (p .0) (q .x) (p .1 .single) refl (p .1 .form) (q .form))
-      (λ work left done. later (q .runs (EndIf ∷ work) (op NOTIF ∷ treeRead (p .0) left) done refl) ⨾ later (back work left (q .x ⊳ done)) ⨾ later (made (join orC (p .0) (q .x)) (join-passes orC (p .0) (q .x) r te) at-once))) te
+      (λ work left done. later (q .runs (EndIf ∷ work) (op NOTIF ∷ treeRead (p .0) left) done refl) ⨾ later (back work left (q .x ⊳ done)) ⨾ later (runs.made segwit (join orC (p .0) (q .x)) (join-passes orC (p .0) (q .x) r te) at-once))) te
       (λ left. ap (λ l. op ENDIF ∷ l) (q .reads (op NOTIF ∷ treeRead a left) ∙ ap (λ l. treeRead (q .x) (op NOTIF ∷ l)) (p .3 left))) (join-kept orC a b (p .0) (q .x) (p .4) (q .kept))
 
   or-i-par : (a b : Tree) (c d r : Correctness) → combinationRule orI c d ≡ Is r → Canon a c → Canon b d → Parsed (join orI a b) r
@@ -602,7 +593,7 @@ module _ (segwit : Bool) where
       let te = join-typed orI (p .x) (q .x) c d r (p .typed) (q .typed) f in
       alone (join orI a b) (join orI (p .x) (q .x)) r
       (plain _ r (op ENDIF) (λ left. treeRead (q .x) (op ELSE ∷ treeRead (p .x) (op IF ∷ left))) te (λ left. refl) (λ left. refl, refl, refl, λ k n. refl) refl refl (join-form orI (p .x) (q .x) refl refl (p .form) (q .form))
-      (λ work left done. later (q .runs (EndIf ∷ work) (op ELSE ∷ treeRead (p .x) (op IF ∷ left)) done refl) ⨾ later (p .runs (EndIfElse ∷ work) (op IF ∷ left) (q .x ⊳ done) refl) ⨾ later (made (join orI (p .x) (q .x)) (join-passes orI (p .x) (q .x) r te) at-once))) te
+      (λ work left done. later (q .runs (EndIf ∷ work) (op ELSE ∷ treeRead (p .x) (op IF ∷ left)) done refl) ⨾ later (p .runs (EndIfElse ∷ work) (op IF ∷ left) (q .x ⊳ done) refl) ⨾ later (runs.made segwit (join orI (p .x) (q .x)) (join-passes orI (p .x) (q .x) r te) at-once))) te
       (λ left. ap (λ l. op ENDIF ∷ l) (q .reads (op ELSE ∷ treeRead a (op IF ∷ left)) ∙ ap (λ l. treeRead (q .x) (op ELSE ∷ l)) (p .reads (op IF ∷ left)))) (join-kept orI a b (p .x) (q .x) (p .kept) (q .kept))
 
   two-par : (k : Combination) (a b : Tree) (c d r : Correctness) → combinationRule k c d ≡ Is r → Parsed a c → ParB (takesW k) b d → Parsed (join k a b) r
@@ -620,7 +611,7 @@ module _ (segwit : Bool) where
       alone (andOr x y z) (andOr (p .0) (q .x) (s .x)) r
       (plain _ r (op ENDIF) (λ left. treeRead (q .x) (op ELSE ∷ treeRead (s .x) (op NOTIF ∷ treeRead (p .0) left))) te (λ left. refl) (λ left. refl, refl, refl, λ k n. refl) refl refl (and-or-form (p .0) (q .x) (s .x) (p .1 .single) (p .1 .form) (q .form) (s .form))
       (λ work left done. later (q .runs (EndIf ∷ work) (op ELSE ∷ treeRead (s .x) (op NOTIF ∷ treeRead (p .0) left)) done refl) ⨾ later (s .runs (EndIfElse ∷ work) (op NOTIF ∷ treeRead (p .0) left) (q .x ⊳ done) refl)
-      ⨾ later (p .1 .runs (Tern ∷ work) left (s .x ⊳ (q .x ⊳ done))) ⨾ later (made (andOr (p .0) (q .x) (s .x)) ok at-once))) te
+      ⨾ later (p .1 .runs (Tern ∷ work) left (s .x ⊳ (q .x ⊳ done))) ⨾ later (runs.made segwit (andOr (p .0) (q .x) (s .x)) ok at-once))) te
       (λ left. ap (λ l. op ENDIF ∷ l) (q .reads (op ELSE ∷ treeRead z (op NOTIF ∷ treeRead x left)) ∙ ap (λ l. treeRead (q .x) (op ELSE ∷ l)) (s .reads (op NOTIF ∷ treeRead x left) ∙ ap (λ l. treeRead (s .x) (op NOTIF ∷ l)) (p .3 left))))
       (λ f. let h = and-or-form-parts x y z f in let e = p .4 (h .0) in let g = q .kept (h .1) in let i = s .kept (h .2) in rw (e, g, i))
 
@@ -686,7 +677,7 @@ module _ (segwit : Bool) where
       let first-read : Reach (goesOn (ThreshW k n ∷ work) (treeRead x left) (_⊕_ (q .ys) done)) (goesOn (ThreshE k (suc n) ∷ work) left (x ⊳ (_⊕_ (q .ys) done))) =
       later (rw (c .ends left, c .fine .3 k n) (rw (c .ends left) at (c .runs (ThreshE k (suc n) ∷ work) left (_⊕_ (q .ys) done)))) in
       let all-taken : Reach (goesOn (ThreshE k (suc n) ∷ work) left (x ⊳ (_⊕_ (q .ys) done))) (goesOn work left (thresh k x (q .ys) ⊳ done)) =
-      later (rw (counted-many (q .ys), take-all (q .ys) done) (made (thresh k x (q .ys)) ok at-once)) in
+      later (rw (counted-many (q .ys), take-all (q .ys) done) (runs.made segwit (thresh k x (q .ys)) ok at-once)) in
       q .runs k 0 work (treeRead x left) done ⨾ first-read ⨾ all-taken
 
   thresh-par : (k : ℕ) (x : Tree) (xs : Trees) (c : Correctness) (cs : List Correctness) (r : Correctness) → threshAllowed k x xs ≡ true → rules.threshold (c ∷ cs) ≡ Is r → Solo x c → Others xs cs → Parsed (thresh k x xs) r
@@ -771,17 +762,17 @@ module _ (segwit : Bool) where
     parse : (t : Tree) → allowed segwit t ≡ true → Par t (typeOf segwit t)
     parse (leaf l) g = leaf-any l g
     parse (wrap w x) g = wrap-any w x (typeOf segwit x) (parse x g)
-    parse (join k a b) g = join-any k a b (typeOf segwit a) (typeOf segwit b) (parse a (and-left (allowed segwit a) (allowed segwit b) g)) (parse b (and-right (allowed segwit a) (allowed segwit b) g))
+    parse (join k a b) g = join-any k a b (typeOf segwit a) (typeOf segwit b) (parse a (left-true (allowed segwit a) (allowed segwit b) g)) (parse b (right-true (allowed segwit a) (allowed segwit b) g))
     parse (andOr x y z) g =
-        let h = and-right (allowed segwit x) (allowed segwit y && allowed segwit z) g in
-        and-or-any x y z (typeOf segwit x) (typeOf segwit y) (typeOf segwit z) (parse x (and-left (allowed segwit x) (allowed segwit y && allowed segwit z) g)) (parse y (and-left (allowed segwit y) (allowed segwit z) h)) (parse z (and-right (allowed segwit y) (allowed segwit z) h))
+        let h = right-true (allowed segwit x) (allowed segwit y && allowed segwit z) g in
+        and-or-any x y z (typeOf segwit x) (typeOf segwit y) (typeOf segwit z) (parse x (left-true (allowed segwit x) (allowed segwit y && allowed segwit z) g)) (parse y (left-true (allowed segwit y) (allowed segwit z) h)) (parse z (right-true (allowed segwit y) (allowed segwit z) h))
     parse (thresh k x xs) g =
-        let h = and-right (threshAllowed k x xs) (allowed segwit x && allAllowed segwit xs) g in
-        thresh-any k x xs (typeOf segwit x) (typesOf segwit xs) (and-left (threshAllowed k x xs) (allowed segwit x && allAllowed segwit xs) g) (parse x (and-left (allowed segwit x) (allAllowed segwit xs) h)) (parses xs (and-right (allowed segwit x) (allAllowed segwit xs) h))
+        let h = right-true (threshAllowed k x xs) (allowed segwit x && allAllowed segwit xs) g in
+        thresh-any k x xs (typeOf segwit x) (typesOf segwit xs) (left-true (threshAllowed k x xs) (allowed segwit x && allAllowed segwit xs) g) (parse x (left-true (allowed segwit x) (allAllowed segwit xs) h)) (parses xs (right-true (allowed segwit x) (allAllowed segwit xs) h))
 
     parses : (xs : Trees) → allAllowed segwit xs ≡ true → ParTypes xs (typesOf segwit xs)
     parses nil g = tt
-    parses (x ⊳ xs) g = all-any x xs (typeOf segwit x) (typesOf segwit xs) (parse x (and-left (allowed segwit x) (allAllowed segwit xs) g)) (parses xs (and-right (allowed segwit x) (allAllowed segwit xs) g))
+    parses (x ⊳ xs) g = all-any x xs (typeOf segwit x) (typesOf segwit xs) (parse x (left-true (allowed segwit x) (allAllowed segwit xs) g)) (parses xs (right-true (allowed segwit x) (allAllowed segwit xs) g))
 
   -- The tokens of an allowed tree with a type that is no W are read, to a tree of the same type that has the rows' form; to the very tree, if it has that form
   pub complete-form : (t : Tree) (c : Correctness) → allowed segwit t ≡ true → typeOf segwit t ≡ Is c → isW (c .base) ≡ false
@@ -797,4 +788,4 @@ module _ (segwit : Bool) where
   -- so its and_v chains are nested to the left
   pub complete : (t : Tree) (c : Correctness) → allowed segwit t ≡ true → typeOf segwit t ≡ Is c → isW (c .base) ≡ false
       → (u : Tree) × (typeOf segwit u ≡ Is c) × (leftNested u ≡ true) × runs.Reach segwit (begin (reverseAux (written t) [])) (goesOn [] [] (u ⊳ nil))
-  complete t c g e w = let k = complete-form t c g e w in (k .0, k .1, and-left (leftNested (k .0)) (floatedOut (k .0)) (k .2), k .4)
+  complete t c g e w = let k = complete-form t c g e w in (k .0, k .1, left-true (leftNested (k .0)) (floatedOut (k .0)) (k .2), k .4)

@@ -17,7 +17,7 @@ use lib.ListN.{length, length-map}
 use Rattle.lex.specs.Token.{Bytes, Token, Lexeme, lexeme}
 use Rattle.lex.specs.Script as lex
 use Rattle.lex.specs.Script.{lexOf}
-use Rattle.lex.proofs.Theorems.{tokens-at-most-twice, same-tokens-in-any-room, ample-room-suffices, eight-never-with-ample-room}
+use Rattle.lex.proofs.Theorems.{tokens-at-most-twice, same-tokens-in-any-room, ample-room-suffices, eight-never-with-ample-room, same-tokens}
 use Rattle.tables.specs.Choose.{pick}
 use Rattle.tables.specs.Tables.{zeros}
 use Rattle.standard.specs.Tree.{Tree, nil, _⊳_, SameTree, leftNested}
@@ -32,7 +32,7 @@ use Rattle.standard.specs.Bound.{pushes, pushes-le}
 use Rattle.standard.specs.Carried.{Ample}
 use Rattle.standard.specs.Reads.{WrittenWith, Accepts, accepted-is-written, exactly, steps-at-most, never-empty}
 use Rattle.standard.specs.Reads as reads
-use Rattle.standard.specs.RuleLaws.{and-left, and-right}
+use Rattle.standard.specs.RuleLaws.{within-range}
 use Rattle.standard.specs.TableLaws.{read-back}
 use Rattle.standard.specs.PlaceLaws.{bares, same-tree-same-lexemes}
 use Rattle.standard.specs.ScriptLaws.{lexing-numbers, pushes-at-most-bytes, tree-of-script}
@@ -73,15 +73,12 @@ NoRoomRefusal n = (within 15 n 17 || eqb n 8) ≡ false
 low-number : (n : ℕ) → n ≤ 8 → (n ≡ 8 → ⊥) → NoRoomRefusal n
 low-number n h f = rw (lt-leb 15 n (omega arith), ne-eqb n 8 f)
 
-in-range : (a b n : ℕ) → within a n b ≡ true → (a ≤ n) × (n ≤ b)
-in-range a b n e = (leb-true a n (and-left (leb a n) (leb n b) e), leb-true n b (and-right (leb a n) (leb n b) e))
-
 row-number : (n : ℕ) → (within 9 n 14 || within 18 n 19) ≡ true → NoRoomRefusal n
 row-number n e = by (within 9 n 14) refl e
   where
     by : (b : Bool) → within 9 n 14 ≡ b → (b || within 18 n 19) ≡ true → NoRoomRefusal n
-    by true f g = let r = in-range 9 14 n f in rw (lt-leb 15 n (omega arith), ne-eqb n 8 (λ q. let z : n ≡ 8 = q in omega arith))
-    by false f g = let r = in-range 18 19 n g in rw (le-leb 15 n (omega arith), lt-leb n 17 (omega arith), ne-eqb n 8 (λ q. let z : n ≡ 8 = q in omega arith))
+    by true f g = let r = within-range 9 n 14 f in rw (lt-leb 15 n (omega arith), ne-eqb n 8 (λ q. let z : n ≡ 8 = q in omega arith))
+    by false f g = let r = within-range 18 n 19 g in rw (le-leb 15 n (omega arith), lt-leb n 17 (omega arith), ne-eqb n 8 (λ q. let z : n ≡ 8 = q in omega arith))
 
 -- Cases of an outcome
 
@@ -223,16 +220,13 @@ module _ (kind : ℕ) (script : List ℕ) (lengths : Lengths) where
       → NoRoomRefusal (outcomeOf kind script lengths .answer .number)
   ample-by-tokens b room tokens e ht hn hk hw = room-enough
       (λ p f. let z : _≡_ {A = ℕ} 0 1 = tokens-or-refused tokens 8 p (sym same ∙ f) in omega arith)
-      (λ others f. let q : tokens ≡ others = same-tokens tokens others (sym same ∙ f) in rw (← q) ample-here) b
+      (λ others f. let q : tokens ≡ others = same-tokens (sym same ∙ f) in rw (← q) ample-here) b
     where
       same : lexOf (tokenRoom lengths) script ≡ lex.tokens tokens
       same = same-tokens-in-any-room room (tokenRoom lengths) script tokens e ht
 
       tokens-or-refused : (ts : List Token) (k p : ℕ) → lex.tokens ts ≡ lex.refused k p → _≡_ {A = ℕ} 0 1
       tokens-or-refused ts k p f = cc
-
-      same-tokens : (ts us : List Token) → lex.tokens ts ≡ lex.tokens us → ts ≡ us
-      same-tokens ts us f = cc
 
       ample-here : Ample (limitsOf lengths) (length (lexemesOf tokens)) (pushes (lexemesOf tokens))
       ample-here =
@@ -289,10 +283,7 @@ module _ (kind : ℕ) (script : List ℕ) (lengths other : Lengths) (h : HandedO
       let room = length (h .tokens) + length (g .tokens) in
       let a = same-tokens-in-any-room (tokenRoom lengths) room script (h .tokens) (h .lexes) (omega arith) in
       let b = same-tokens-in-any-room (tokenRoom other) room script (g .tokens) (g .lexes) (omega arith) in
-      lexed-same (h .tokens) (g .tokens) (sym a ∙ b)
-    where
-      lexed-same : (ts us : List Token) → lex.tokens ts ≡ lex.tokens us → ts ≡ us
-      lexed-same ts us e = cc
+      same-tokens (sym a ∙ b)
 
   pub one-tree-whatever-the-tables : h .tree ≡ g .tree
   one-tree-whatever-the-tables =

@@ -1,22 +1,16 @@
 -- The form that the rows build, node by node: what it asks of a node beside the form of its children, there (`..-form`) and back (`..-form-parts`). Places don't matter to it (`bare-row-form`).
 use mathlib.Core.Path.{_≡_, refl, sym, ap, _∙_}
-use mathlib.Core.Bool.{Bool, true, false, _&&_, not, true≢false}
+use mathlib.Core.Bool.{Bool, true, false, _&&_, not}
 use Prim.Native.Nat.{ℕ}
+use borrow.Author.Tests.{not-true}
+use Rattle.tables.proofs.BoolLaws.{left-true, right-true, both-true}
 use Rattle.standard.specs.Tree.{Wrapper, Combination, Tree, Trees, leaf, wrap, join, andOr, thresh, nil, _⊳_, bareTree, bareTrees, SameTree, joinsByAndV, isAndVTree, leftNested, allLeftNested}
 use Rattle.standard.specs.RowForm.{floats, firstFloats, floatedOut, allFloatedOut, rowForm}
-use Rattle.standard.specs.RuleLaws.{and-left, and-right}
 
 abbrev pub allRowForm : Trees → Bool
 allRowForm ts = allLeftNested ts && allFloatedOut ts
 
 -- tests put together and taken apart
-
-and-true : (a b : Bool) → a ≡ true → b ≡ true → (a && b) ≡ true
-and-true a b e f = rw e f
-
-not-true : (b : Bool) → not b ≡ true → b ≡ false
-not-true true e = absurd (true≢false (sym e))
-not-true false e = refl
 
 not-false : (b : Bool) → b ≡ false → not b ≡ true
 not-false b e = rw e
@@ -24,79 +18,79 @@ not-false b e = rw e
 -- There
 
 pub wrap-form : (w : Wrapper) (x : Tree) → (floats w && isAndVTree x) ≡ false → rowForm x ≡ true → rowForm (wrap w x) ≡ true
-wrap-form w x n f = rw (n, and-left (leftNested x) (floatedOut x) f, and-right (leftNested x) (floatedOut x) f)
+wrap-form w x n f = rw (n, left-true (leftNested x) (floatedOut x) f, right-true (leftNested x) (floatedOut x) f)
 
 pub join-form : (c : Combination) (x y : Tree) → (firstFloats c && isAndVTree x) ≡ false → (joinsByAndV c && isAndVTree y) ≡ false → rowForm x ≡ true → rowForm y ≡ true → rowForm (join c x y) ≡ true
 join-form c x y m n f g =
-    rw (m, n, and-left (leftNested x) (floatedOut x) f, and-left (leftNested y) (floatedOut y) g, and-right (leftNested x) (floatedOut x) f, and-right (leftNested y) (floatedOut y) g)
+    rw (m, n, left-true (leftNested x) (floatedOut x) f, left-true (leftNested y) (floatedOut y) g, right-true (leftNested x) (floatedOut x) f, right-true (leftNested y) (floatedOut y) g)
 
 pub and-or-form : (x y z : Tree) → isAndVTree x ≡ false → rowForm x ≡ true → rowForm y ≡ true → rowForm z ≡ true → rowForm (andOr x y z) ≡ true
 and-or-form x y z n f g h = rw (
   n,
-  and-left (leftNested x) (floatedOut x) f,
-  and-left (leftNested y) (floatedOut y) g,
-  and-left (leftNested z) (floatedOut z) h,
-  and-right (leftNested x) (floatedOut x) f,
-  and-right (leftNested y) (floatedOut y) g,
-  and-right (leftNested z) (floatedOut z) h,
+  left-true (leftNested x) (floatedOut x) f,
+  left-true (leftNested y) (floatedOut y) g,
+  left-true (leftNested z) (floatedOut z) h,
+  right-true (leftNested x) (floatedOut x) f,
+  right-true (leftNested y) (floatedOut y) g,
+  right-true (leftNested z) (floatedOut z) h,
 )
 
 pub thresh-form : (k : ℕ) (x : Tree) (xs : Trees) → isAndVTree x ≡ false → rowForm x ≡ true → allRowForm xs ≡ true → rowForm (thresh k x xs) ≡ true
 thresh-form k x xs n f g =
-    rw (n, and-left (leftNested x) (floatedOut x) f, and-left (allLeftNested xs) (allFloatedOut xs) g, and-right (leftNested x) (floatedOut x) f, and-right (allLeftNested xs) (allFloatedOut xs) g)
+    rw (n, left-true (leftNested x) (floatedOut x) f, left-true (allLeftNested xs) (allFloatedOut xs) g, right-true (leftNested x) (floatedOut x) f, right-true (allLeftNested xs) (allFloatedOut xs) g)
 
 pub all-form : (x : Tree) (xs : Trees) → rowForm x ≡ true → allRowForm xs ≡ true → allRowForm (x ⊳ xs) ≡ true
-all-form x xs f g = rw (and-left (leftNested x) (floatedOut x) f, and-left (allLeftNested xs) (allFloatedOut xs) g, and-right (leftNested x) (floatedOut x) f, and-right (allLeftNested xs) (allFloatedOut xs) g)
+all-form x xs f g = rw (left-true (leftNested x) (floatedOut x) f, left-true (allLeftNested xs) (allFloatedOut xs) g, right-true (leftNested x) (floatedOut x) f, right-true (allLeftNested xs) (allFloatedOut xs) g)
 
 -- And back
 
 pub wrap-form-parts : (w : Wrapper) (x : Tree) → rowForm (wrap w x) ≡ true → ((floats w && isAndVTree x) ≡ false) × (rowForm x ≡ true)
 wrap-form-parts w x f =
-    let n = and-left (leftNested x) (floatedOut (wrap w x)) f in
-    let o = and-right (leftNested x) (floatedOut (wrap w x)) f in
+    let n = left-true (leftNested x) (floatedOut (wrap w x)) f in
+    let o = right-true (leftNested x) (floatedOut (wrap w x)) f in
     let m = not (floats w && isAndVTree x) in
-    (not-true (floats w && isAndVTree x) (and-left m (floatedOut x) o), and-true (leftNested x) (floatedOut x) n (and-right m (floatedOut x) o))
+    (not-true (floats w && isAndVTree x) (left-true m (floatedOut x) o), both-true n (right-true m (floatedOut x) o))
 
 pub join-form-parts : (c : Combination) (x y : Tree) → rowForm (join c x y) ≡ true
     → ((firstFloats c && isAndVTree x) ≡ false) × ((joinsByAndV c && isAndVTree y) ≡ false) × (rowForm x ≡ true) × (rowForm y ≡ true)
 join-form-parts c x y f =
     let a = not (joinsByAndV c && isAndVTree y) in
     let b = not (firstFloats c && isAndVTree x) in
-    let n = and-left (leftNested (join c x y)) (floatedOut (join c x y)) f in
-    let o = and-right (leftNested (join c x y)) (floatedOut (join c x y)) f in
-    let ns = and-right a (leftNested x && leftNested y) n in
-    let os = and-right b (floatedOut x && floatedOut y) o in (
-      not-true (firstFloats c && isAndVTree x) (and-left b (floatedOut x && floatedOut y) o),
-      not-true (joinsByAndV c && isAndVTree y) (and-left a (leftNested x && leftNested y) n),
-      and-true (leftNested x) (floatedOut x) (and-left (leftNested x) (leftNested y) ns) (and-left (floatedOut x) (floatedOut y) os),
-      and-true (leftNested y) (floatedOut y) (and-right (leftNested x) (leftNested y) ns) (and-right (floatedOut x) (floatedOut y) os),
+    let n = left-true (leftNested (join c x y)) (floatedOut (join c x y)) f in
+    let o = right-true (leftNested (join c x y)) (floatedOut (join c x y)) f in
+    let ns = right-true a (leftNested x && leftNested y) n in
+    let os = right-true b (floatedOut x && floatedOut y) o in (
+      not-true (firstFloats c && isAndVTree x) (left-true b (floatedOut x && floatedOut y) o),
+      not-true (joinsByAndV c && isAndVTree y) (left-true a (leftNested x && leftNested y) n),
+      both-true (left-true (leftNested x) (leftNested y) ns) (left-true (floatedOut x) (floatedOut y) os),
+      both-true (right-true (leftNested x) (leftNested y) ns) (right-true (floatedOut x) (floatedOut y) os),
     )
 
 pub and-or-form-parts : (x y z : Tree) → rowForm (andOr x y z) ≡ true → (rowForm x ≡ true) × (rowForm y ≡ true) × (rowForm z ≡ true)
 and-or-form-parts x y z f =
-    let n = and-left (leftNested (andOr x y z)) (floatedOut (andOr x y z)) f in
-    let o = and-right (not (isAndVTree x)) (floatedOut x && (floatedOut y && floatedOut z)) (and-right (leftNested (andOr x y z)) (floatedOut (andOr x y z)) f) in
-    let ns = and-right (leftNested x) (leftNested y && leftNested z) n in
-    let os = and-right (floatedOut x) (floatedOut y && floatedOut z) o in (
-      and-true (leftNested x) (floatedOut x) (and-left (leftNested x) (leftNested y && leftNested z) n) (and-left (floatedOut x) (floatedOut y && floatedOut z) o),
-      and-true (leftNested y) (floatedOut y) (and-left (leftNested y) (leftNested z) ns) (and-left (floatedOut y) (floatedOut z) os),
-      and-true (leftNested z) (floatedOut z) (and-right (leftNested y) (leftNested z) ns) (and-right (floatedOut y) (floatedOut z) os),
+    let n = left-true (leftNested (andOr x y z)) (floatedOut (andOr x y z)) f in
+    let o = right-true (not (isAndVTree x)) (floatedOut x && (floatedOut y && floatedOut z)) (right-true (leftNested (andOr x y z)) (floatedOut (andOr x y z)) f) in
+    let ns = right-true (leftNested x) (leftNested y && leftNested z) n in
+    let os = right-true (floatedOut x) (floatedOut y && floatedOut z) o in (
+      both-true (left-true (leftNested x) (leftNested y && leftNested z) n) (left-true (floatedOut x) (floatedOut y && floatedOut z) o),
+      both-true (left-true (leftNested y) (leftNested z) ns) (left-true (floatedOut y) (floatedOut z) os),
+      both-true (right-true (leftNested y) (leftNested z) ns) (right-true (floatedOut y) (floatedOut z) os),
     )
 
 pub thresh-form-parts : (k : ℕ) (x : Tree) (xs : Trees) → rowForm (thresh k x xs) ≡ true → (rowForm x ≡ true) × (allRowForm xs ≡ true)
 thresh-form-parts k x xs f =
-    let n = and-left (leftNested x && allLeftNested xs) (floatedOut (thresh k x xs)) f in
-    let o = and-right (not (isAndVTree x)) (floatedOut x && allFloatedOut xs) (and-right (leftNested x && allLeftNested xs) (floatedOut (thresh k x xs)) f) in (
-      and-true (leftNested x) (floatedOut x) (and-left (leftNested x) (allLeftNested xs) n) (and-left (floatedOut x) (allFloatedOut xs) o),
-      and-true (allLeftNested xs) (allFloatedOut xs) (and-right (leftNested x) (allLeftNested xs) n) (and-right (floatedOut x) (allFloatedOut xs) o),
+    let n = left-true (leftNested x && allLeftNested xs) (floatedOut (thresh k x xs)) f in
+    let o = right-true (not (isAndVTree x)) (floatedOut x && allFloatedOut xs) (right-true (leftNested x && allLeftNested xs) (floatedOut (thresh k x xs)) f) in (
+      both-true (left-true (leftNested x) (allLeftNested xs) n) (left-true (floatedOut x) (allFloatedOut xs) o),
+      both-true (right-true (leftNested x) (allLeftNested xs) n) (right-true (floatedOut x) (allFloatedOut xs) o),
     )
 
 pub all-form-parts : (x : Tree) (xs : Trees) → allRowForm (x ⊳ xs) ≡ true → (rowForm x ≡ true) × (allRowForm xs ≡ true)
 all-form-parts x xs f =
-    let n = and-left (leftNested x && allLeftNested xs) (floatedOut x && allFloatedOut xs) f in
-    let o = and-right (leftNested x && allLeftNested xs) (floatedOut x && allFloatedOut xs) f in (
-      and-true (leftNested x) (floatedOut x) (and-left (leftNested x) (allLeftNested xs) n) (and-left (floatedOut x) (allFloatedOut xs) o),
-      and-true (allLeftNested xs) (allFloatedOut xs) (and-right (leftNested x) (allLeftNested xs) n) (and-right (floatedOut x) (allFloatedOut xs) o),
+    let n = left-true (leftNested x && allLeftNested xs) (floatedOut x && allFloatedOut xs) f in
+    let o = right-true (leftNested x && allLeftNested xs) (floatedOut x && allFloatedOut xs) f in (
+      both-true (left-true (leftNested x) (allLeftNested xs) n) (left-true (floatedOut x) (allFloatedOut xs) o),
+      both-true (right-true (leftNested x) (allLeftNested xs) n) (right-true (floatedOut x) (allFloatedOut xs) o),
     )
 
 -- Places

@@ -14,6 +14,7 @@ pub mod Examples
 pub mod Demand3
 pub mod Reads
 pub mod TypesAgree
+pub mod TreeLaws
 pub mod TableLaws
 pub mod WrittenLaws
 pub mod PlaceLaws

@@ -6,12 +6,13 @@ use mathlib.Core.Logic.{_↔_}
 use Prim.Native.Nat.{ℕ, zero, suc, _+_, _*_, _≤_, _<_}
 use native.Mathlib.Omega.{arith}
 use lib.ListN.{length}
-use Rattle.base_input.specs.declared.Base.{Base}
 use Rattle.base_input.specs.declared.Base.the-variants as base
 use Rattle.correctness.specs.declared.Correctness.{Correctness}
 use Rattle.correctness.specs.declared.Typed.the-variants.{Is}
-use Rattle.base_input.specs.Tests.{isB, isW}
+use Rattle.base_input.specs.Tests.{isW}
+use Rattle.base_input.specs.TestLaws.{only-B}
 use Rattle.lex.specs.Token.{Lexeme}
+use Rattle.tables.proofs.BoolLaws.{left-true}
 use Rattle.standard.specs.Tree.{Tree, nil, _⊳_, SameTree, sizes, keyCounts, leftNested}
 use Rattle.standard.specs.Written.{written}
 use Rattle.standard.specs.RowForm.{floatedOut, rowForm}
@@ -20,17 +21,10 @@ use Rattle.standard.specs.Types.{typeOf, WellTypedB}
 use Rattle.standard.specs.Machine.{State, Limits, Refusal, goes, goesOn, start, after, accepted, refused, Run, ends, topIs, carryOn, decode}
 use Rattle.standard.specs.Runs.{begin, run, one-end}
 use Rattle.standard.specs.Complete.{complete-form}
-use Rattle.standard.specs.RuleLaws.{and-left}
 use Rattle.standard.specs.PlaceLaws.{bares, bare-type, bare-allowed, replaced}
 use Rattle.standard.specs.FormLaws.{same-row-form}
 use Rattle.standard.specs.Bound.{pushes, Bounded, work-le}
 use Rattle.standard.specs.Carried.{Ample, Ends, EndsAmple, Working, Ended, decode-ends, decode-bounded, decode-more, decode-steps, decode-counts, decode-ample, decode-complete, accepted-run}
-
-B-is : (b : Base) → isB b ≡ true → b ≡ base.B
-B-is base.B e = refl
-B-is base.K e = let z : _≡_ {A = ℕ} 0 1 = cc in let x : ⊥ = omega arith in absurd x
-B-is base.«V» e = let z : _≡_ {A = ℕ} 0 1 = cc in let x : ⊥ = omega arith in absurd x
-B-is base.W e = let z : _≡_ {A = ℕ} 0 1 = cc in let x : ⊥ = omega arith in absurd x
 
 module _ (segwit : Bool) where
   -- a tree of base B, well typed and allowed, that is written with these lexemes
@@ -44,7 +38,7 @@ module _ (segwit : Bool) where
   pub accepted-is-written : (limits : Limits) (lexemes : List Lexeme) (t : Tree) → Accepts limits lexemes t → WrittenWith lexemes t
   accepted-is-written limits lexemes t e =
       let h : Ends segwit lexemes (accepted t) = rw e at (decode-ends segwit limits lexemes) in
-      (h .0, (h .1 .0 .0, (h .1 .1 .0, h .1 .1 .1, B-is (h .1 .1 .0 .base) (h .1 .1 .2))))
+      (h .0, (h .1 .0 .0, (h .1 .1 .0, h .1 .1 .1, only-B (h .1 .1 .0 .base) (h .1 .1 .2))))
 
   top-accepted : (u : Tree) (c : Correctness) → typeOf segwit u ≡ Is c → c .base ≡ base.B → topIs u (typeOf segwit u) ≡ accepted u
   top-accepted u c e b = rw (e, b)
@@ -88,7 +82,7 @@ module _ (segwit : Bool) where
 
   -- so its and_v chains are nested to the left
   pub chains-left : (limits : Limits) (lexemes : List Lexeme) (t : Tree) → Accepts limits lexemes t → leftNested t ≡ true
-  chains-left limits lexemes t a = and-left (leftNested t) (floatedOut t) (accepted-has-row-form limits lexemes t a)
+  chains-left limits lexemes t a = left-true (leftNested t) (floatedOut t) (accepted-has-row-form limits lexemes t a)
 
   -- and its type is that of every other well-typed, allowed tree with those lexemes
   pub one-type : (limits : Limits) (lexemes : List Lexeme) (t u : Tree) → Accepts limits lexemes t → WrittenWith lexemes u → typeOf segwit t ≡ typeOf segwit u

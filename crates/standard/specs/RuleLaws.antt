@@ -1,17 +1,17 @@
 -- The laws of the type rules that the theorems about reading stand on. Only this file opens a rule, for 1 and 2; 3 to 5 are laws of `correctness`. A changed rule that keeps these laws leaves the theorems standing.
 -- 1. Which children and results are W: of a wrapper, a combination, and_or and a thresh (`wrapper-bases`, `combination-bases`, `and-or-bases`, `threshold-bases`, `leaf-base`).
 -- 2. The first child of or_b, or_d, or_c, and_or and thresh is dissatisfiable (`first-dissatisfiable`, `and-or-dissatisfiable`, `threshold-bases`).
--- 3. An and_v is never dissatisfiable (`and-v-not-dissatisfiable`).
+-- 3. An and_v is never dissatisfiable (`and-v-not-dissatisfiable` of correctness/specs/AndVLaws.antt, cited as it is).
 -- 4. and_v is associative where it is typed (`and-v-associative`).
 -- 5. c:, v:, n: and and_b's first child commute with an and_v before them, and the type stays the same (`wrapper-floats`, `and-b-floats`).
 use mathlib.Core.Path.{_≡_, refl, sym, ap, _∙_}
 use mathlib.Core.Bool.{Bool, true, false, _&&_, not, true≢false}
 use mathlib.Core.List.{List, [], _∷_}
 use mathlib.Core.Option.{some}
-use Prim.Native.Nat.{ℕ, _+_}
+use Prim.Native.Nat.{ℕ, _+_, _≤_}
 use native.Mathlib.Omega.{arith}
-use lib.Dec.{eqb}
-use borrow.Author.Tests.{ne-eqb}
+use lib.Dec.{eqb, leb}
+use borrow.Author.Tests.{ne-eqb, leb-true}
 use Rattle.base_input.specs.declared.Base.{Base}
 use Rattle.base_input.specs.declared.Base.the-variants.{B, K, «V», W}
 use Rattle.base_input.specs.declared.Input.{Input}
@@ -23,20 +23,17 @@ use Rattle.base_input.specs.Tests.{isB, isK, isV, isW, equalBKV, isZero, takesO
 use Rattle.correctness.specs.AndVLaws as laws
 use Rattle.correctness.specs.Rules.{check, is, given, onward, castAlt, castSwap, castCheck, castDupif, castVerify, castNonzero, castZeronotequal, andB, andV, orB, orD, orC, orI, andOr, thresholdChild, thresholdFrom, threshold, noChildren, leafType}
 use Rattle.tables.specs.Choose.{pick}
+use Rattle.tables.proofs.BoolLaws.{left-true, right-true}
 use Rattle.standard.specs.Tree as tree
 use Rattle.standard.specs.Tree.{Wrapper, Combination, Leaf}
+use Rattle.standard.specs.Allowed.{within}
 use Rattle.standard.specs.RowForm.{floats}
 use Rattle.standard.specs.Types.{wrapperRule, combinationRule, typedLeaf}
 
 -- tests and answers taken apart
 
-pub and-left : (a b : Bool) → (a && b) ≡ true → a ≡ true
-and-left true b e = refl
-and-left false b e = e
-
-pub and-right : (a b : Bool) → (a && b) ≡ true → b ≡ true
-and-right true b e = e
-and-right false b e = absurd (true≢false (sym e))
+pub within-range : (least n most : ℕ) → within least n most ≡ true → (least ≤ n) × (n ≤ most)
+within-range least n most e = (leb-true least n (left-true (leb least n) (leb n most) e), leb-true n most (right-true (leb least n) (leb n most) e))
 
 refused-not : {A : Type 0} (x : ErrorKind) (r : Correctness) → Not x ≡ Is r → A
 refused-not x r e = let z : _≡_ {A = ℕ} 0 1 = cc in let b : ⊥ = omega arith in absurd b
@@ -132,26 +129,26 @@ pub combination-bases : (k : Combination) (a b r : Correctness) → combinationR
 unfolding andB andV orB orD orC orI
 combination-bases tree.andV a b r e =
     let h = checked (isV (a .base) && not (isW (b .base))) _ _ r e in
-    let w = not-not-W (b .base) (and-right (isV (a .base)) _ (h .0)) in
-    (V-not-W (a .base) (and-left (isV (a .base)) _ (h .0)), (w, made-base _ _ _ _ r (h .1) ∙ w))
+    let w = not-not-W (b .base) (right-true (isV (a .base)) _ (h .0)) in
+    (V-not-W (a .base) (left-true (isV (a .base)) _ (h .0)), (w, made-base _ _ _ _ r (h .1) ∙ w))
 combination-bases tree.andB a b r e =
     let h = checked (isB (a .base) && isW (b .base)) _ _ r e in
-    (B-not-W (a .base) (and-left (isB (a .base)) _ (h .0)), (and-right (isB (a .base)) _ (h .0), made-base _ _ _ _ r (h .1)))
+    (B-not-W (a .base) (left-true (isB (a .base)) _ (h .0)), (right-true (isB (a .base)) _ (h .0), made-base _ _ _ _ r (h .1)))
 combination-bases tree.orB a b r e =
     let f = checked (a .dissatisfiable) _ _ r e in
     let g = checked (b .dissatisfiable) _ _ r (f .1) in
     let h = checked (isB (a .base) && isW (b .base)) _ _ r (g .1) in
-    (B-not-W (a .base) (and-left (isB (a .base)) _ (h .0)), (and-right (isB (a .base)) _ (h .0), made-base _ _ _ _ r (h .1)))
+    (B-not-W (a .base) (left-true (isB (a .base)) _ (h .0)), (right-true (isB (a .base)) _ (h .0), made-base _ _ _ _ r (h .1)))
 combination-bases tree.orD a b r e =
     let f = checked (a .dissatisfiable) _ _ r e in
     let g = checked (a .unit) _ _ r (f .1) in
     let h = checked (isB (a .base) && isB (b .base)) _ _ r (g .1) in
-    (B-not-W (a .base) (and-left (isB (a .base)) _ (h .0)), (B-not-W (b .base) (and-right (isB (a .base)) _ (h .0)), made-base _ _ _ _ r (h .1)))
+    (B-not-W (a .base) (left-true (isB (a .base)) _ (h .0)), (B-not-W (b .base) (right-true (isB (a .base)) _ (h .0)), made-base _ _ _ _ r (h .1)))
 combination-bases tree.orC a b r e =
     let f = checked (a .dissatisfiable) _ _ r e in
     let g = checked (a .unit) _ _ r (f .1) in
     let h = checked (isB (a .base) && isV (b .base)) _ _ r (g .1) in
-    (B-not-W (a .base) (and-left (isB (a .base)) _ (h .0)), (V-not-W (b .base) (and-right (isB (a .base)) _ (h .0)), made-base _ _ _ _ r (h .1)))
+    (B-not-W (a .base) (left-true (isB (a .base)) _ (h .0)), (V-not-W (b .base) (right-true (isB (a .base)) _ (h .0)), made-base _ _ _ _ r (h .1)))
 combination-bases tree.orI a b r e =
     let h = checked (equalBKV (a .base) (b .base)) _ _ r e in
     let w = equal-not-W (a .base) (b .base) (h .0) in
@@ -163,8 +160,8 @@ and-or-bases a b c r e =
     let f = checked (a .dissatisfiable) _ _ r e in
     let g = checked (a .unit) _ _ r (f .1) in
     let h = checked (isB (a .base) && equalBKV (b .base) (c .base)) _ _ r (g .1) in
-    let w = equal-not-W (b .base) (c .base) (and-right (isB (a .base)) _ (h .0)) in
-    (B-not-W (a .base) (and-left (isB (a .base)) _ (h .0)), (w .0, (w .1, made-base _ _ _ _ r (h .1) ∙ w .0)))
+    let w = equal-not-W (b .base) (c .base) (right-true (isB (a .base)) _ (h .0)) in
+    (B-not-W (a .base) (left-true (isB (a .base)) _ (h .0)), (w .0, (w .1, made-base _ _ _ _ r (h .1) ∙ w .0)))
 
 -- each of these is W
 abbrev pub AllW : List Correctness → Type 0
@@ -240,11 +237,6 @@ first-dissatisfiable tree.orI a b r e h = absurd (true≢false (sym h))
 pub and-or-dissatisfiable : (a b c r : Correctness) → andOr a b c ≡ Is r → a .dissatisfiable ≡ true
 unfolding andOr
 and-or-dissatisfiable a b c r e = checked (a .dissatisfiable) _ _ r e .0
-
--- 3. An and_v is never dissatisfiable: a law of `correctness`
-
-pub and-v-not-dissatisfiable : (a b r : Correctness) → andV a b ≡ Is r → r .dissatisfiable ≡ false
-and-v-not-dissatisfiable a b r e = laws.and-v-not-dissatisfiable a b r e
 
 -- 4. and_v is associative: a law of `correctness`, read from the right-nested chain to the left-nested one
 

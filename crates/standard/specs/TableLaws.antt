@@ -1,7 +1,7 @@
 -- Theorems about the two tables. Making a node appends one entry (`leaf-appends`, `wrap-appends`, `join-appends`, `and-or-appends`, `thresh-appends`), and a multi its keys (`leaf-appends-keys`). The tables have `sizes` and `keyCounts` entries. Reading a tree back off its tables gives the tree (`read-back`), so two trees with the same tables over the same script are the same (`same-tables-same-tree`). The numbers of a table fix its nodes (`same-numbers-same-nodes`).
 use mathlib.Core.Path.{_≡_, refl, sym, ap, _∙_}
 use mathlib.Core.Bool.{Bool, true, false, _&&_, true≢false}
-use mathlib.Core.List.{List, [], _∷_, _++_, append-assoc, map}
+use mathlib.Core.List.{List, [], _∷_, _++_, append-assoc, map, append-nil}
 use mathlib.Core.Option.{none, some}
 use Prim.Native.Nat.{ℕ, suc, _+_}
 use native.Mathlib.Omega.{arith}
@@ -12,12 +12,13 @@ use borrow.Author.Tests.{eqb-true}
 use Rattle.correctness.specs.declared.Typed.{Typed}
 use Rattle.tables.specs.Tables.{flat, Strided}
 use Rattle.lex.specs.Token.{Data, dataAt, dataLength, BYTES32, BYTES33}
+use Rattle.tables.proofs.BoolLaws.{left-true, right-true}
 use Rattle.standard.specs.Tree.{Key, key, sha256, hash256, ripemd160, hash160, Leaf, True, False, PkK, RawPkH, After, Older, HashLock, Multi, MultiA, Wrapper, alt, swap, check, dupIf, verify, nonZero, zeroNotEqual, Combination, andV, andB, orB, orD, orC, orI, Tree, Trees, leaf, wrap, join, andOr, thresh, nil, _⊳_, _⊕_, many, size, sizes, leafKeys, keyCount, keyCounts}
 use Rattle.standard.specs.Allowed.{keyForm, multiKey, allMultiKeys, multiCount, within, allowedLeaf, threshAllowed, allowed, allAllowed}
 use Rattle.standard.specs.Types.{typeOf}
 use Rattle.standard.specs.Table.{Node, nodeCells, cells, node, keyPlaces, dataPlaces, leafOffsets, keysOf, keyTable, wrapperKind, combinationKind, andOrKind, threshKind, leafNode, rootNode, nodesOf, nodesFrom, nodeTable, keyCode, keyLength, keysAt, datasAt, multiAOf, terminalOf, addNode, treesOf, theTree, treeOf, DataOf, KeysOf, DatasOf, LeafOf, TreeOf, TreesOf}
 use Rattle.standard.specs.Sound.{take-all}
-use Rattle.standard.specs.RuleLaws.{and-left, and-right}
+use Rattle.standard.specs.TreeLaws.{keys-append}
 
 -- How many entries
 
@@ -29,20 +30,28 @@ pub data-length : (ds : List Data) → length (dataPlaces ds) ≡ length ds
 data-length [] = refl
 data-length (d ∷ ds) = ap suc (data-length ds)
 
-leaf-keys : (l : Leaf) → length (leafOffsets l) ≡ leafKeys l
-leaf-keys True = refl
-leaf-keys False = refl
-leaf-keys (PkK k) = refl
-leaf-keys (RawPkH d) = refl
-leaf-keys (After n) = refl
-leaf-keys (Older n) = refl
-leaf-keys (HashLock h d) = refl
-leaf-keys (Multi k ks) = places-length ks
-leaf-keys (MultiA k d ds) = ap suc (data-length ds)
+pub keys-at-length : (script places : List ℕ) → length (keysAt script places) ≡ length places
+keys-at-length script [] = refl
+keys-at-length script (p ∷ ps) = ap suc (keys-at-length script ps)
+
+pub datas-at-length : (script places : List ℕ) → length (datasAt script places) ≡ length places
+datas-at-length script [] = refl
+datas-at-length script (p ∷ ps) = ap suc (datas-at-length script ps)
+
+pub leaf-keys-length : (l : Leaf) → length (leafOffsets l) ≡ leafKeys l
+leaf-keys-length True = refl
+leaf-keys-length False = refl
+leaf-keys-length (PkK k) = refl
+leaf-keys-length (RawPkH d) = refl
+leaf-keys-length (After n) = refl
+leaf-keys-length (Older n) = refl
+leaf-keys-length (HashLock h d) = refl
+leaf-keys-length (Multi k ks) = places-length ks
+leaf-keys-length (MultiA k d ds) = ap suc (data-length ds)
 
 mutual
   pub keys-length : (t : Tree) → length (keysOf t) ≡ keyCount t
-  keys-length (leaf l) = leaf-keys l
+  keys-length (leaf l) = leaf-keys-length l
   keys-length (wrap w x) = keys-length x
   keys-length (join c x y) = omega (arith, length-append (keysOf y) (keysOf x), keys-length x, keys-length y)
   keys-length (andOr x y z) = omega (arith, length-append (keysOf y) (keysOf z ++ keysOf x), length-append (keysOf z) (keysOf x), keys-length x, keys-length y, keys-length z)
@@ -52,6 +61,10 @@ mutual
   pub key-table-length : (ts : Trees) → length (keyTable ts) ≡ keyCounts ts
   key-table-length nil = refl
   key-table-length (t ⊳ ts) = omega (arith, length-append (keyTable ts) (keysOf t), keys-length t, key-table-length ts)
+
+pub key-table-append : (ts more : Trees) → keyTable (_⊕_ ts more) ≡ keyTable more ++ keyTable ts
+key-table-append nil more = sym (append-nil (keyTable more))
+key-table-append (t ⊳ ts) more = rw (key-table-append ts more) (append-assoc (keyTable more) (keyTable ts) (keysOf t))
 
 module _ (segwit : Bool) where
   mutual
@@ -109,23 +122,11 @@ module _ (segwit : Bool) where
   pub and-or-keeps-keys : (x y z : Tree) (ts : Trees) → keyTable (andOr x y z ⊳ ts) ≡ keyTable (x ⊳ (z ⊳ (y ⊳ ts)))
   and-or-keeps-keys x y z ts = simp append-assoc
 
-  keys-append : (xs under : Trees) → keyCounts (_⊕_ xs under) ≡ keyCounts under + keyCounts xs
-  keys-append nil under = omega arith
-  keys-append (x ⊳ xs) under = omega (arith, keys-append xs under)
-
-  append-nil : {A : Type 0} (l : List A) → l ++ [] ≡ l
-  append-nil [] = refl
-  append-nil (x ∷ l) = ap (λ t. x ∷ t) (append-nil l)
-
   nodes-append : (before : ℕ) (xs under : Trees) → nodesFrom segwit before (_⊕_ xs under) ≡ nodesFrom segwit before under ++ nodesFrom segwit (before + keyCounts under) xs
   nodes-append before nil under = sym (append-nil (nodesFrom segwit before under))
   nodes-append before (x ⊳ xs) under =
       let e : before + keyCounts (_⊕_ xs under) ≡ before + keyCounts under + keyCounts xs = omega (arith, keys-append xs under) in
       rw (nodes-append before xs under, e) (append-assoc (nodesFrom segwit before under) (nodesFrom segwit (before + keyCounts under) xs) (nodesOf segwit (before + keyCounts under + keyCounts xs) x))
-
-  key-table-append : (xs under : Trees) → keyTable (_⊕_ xs under) ≡ keyTable under ++ keyTable xs
-  key-table-append nil under = sym (append-nil (keyTable under))
-  key-table-append (x ⊳ xs) under = rw (key-table-append xs under) (append-assoc (keyTable under) (keyTable xs) (keysOf x))
 
   pub thresh-appends : (k : ℕ) (x : Tree) (xs ts : Trees) → nodeTable segwit (thresh k x xs ⊳ ts) ≡ nodeTable segwit (x ⊳ (_⊕_ xs ts)) ++ (rootNode segwit (thresh k x xs) 0 ∷ [])
   thresh-appends k x xs ts =
@@ -168,17 +169,17 @@ module _ (segwit : Bool) where
 
     pub key-read : (z : Bool) (code : ℕ) (d : Data) → keyForm z (key code d) ≡ true → DataOf script code d → key (keyCode z) (dataAt script (d .place) (keyLength z)) ≡ key code d
     unfolding dataLength
-    key-read true code d g e = let c : code ≡ BYTES33 = eqb-true code BYTES33 (and-left (eqb code BYTES33) _ g) in let f : d ≡ dataAt script (d .place) 33 = rw c at e in rw c (ap (key BYTES33) (sym f))
+    key-read true code d g e = let c : code ≡ BYTES33 = eqb-true code BYTES33 (left-true (eqb code BYTES33) _ g) in let f : d ≡ dataAt script (d .place) 33 = rw c at e in rw c (ap (key BYTES33) (sym f))
     key-read false code d g e = let c : code ≡ BYTES32 = eqb-true code BYTES32 g in let f : d ≡ dataAt script (d .place) 32 = rw c at e in rw c (ap (key BYTES32) (sym f))
 
     pub keys-read : (z : Bool) (ks : List Key) → allMultiKeys z ks ≡ true → KeysOf script ks → keysAt script (keyPlaces ks) ≡ ks
     unfolding dataLength
     keys-read z [] g e = refl
     keys-read true (key code d ∷ ks) g e =
-        let c : code ≡ BYTES33 = eqb-true code BYTES33 (and-left (eqb code BYTES33) _ (and-left (multiKey true (key code d)) (allMultiKeys true ks) g)) in
+        let c : code ≡ BYTES33 = eqb-true code BYTES33 (left-true (eqb code BYTES33) _ (left-true (multiKey true (key code d)) (allMultiKeys true ks) g)) in
         let f : d ≡ dataAt script (d .place) 33 = rw c at (e .0) in
         let first-key : key BYTES33 (dataAt script (d .place) 33) ≡ key code d = rw c (ap (key BYTES33) (sym f)) in
-        rw (first-key, keys-read true ks (and-right (multiKey true (key code d)) (allMultiKeys true ks) g) (e .1))
+        rw (first-key, keys-read true ks (right-true (multiKey true (key code d)) (allMultiKeys true ks) g) (e .1))
     keys-read false (k ∷ ks) g e = absurd (true≢false (sym g))
 
     pub datas-read : (ds : List Data) → DatasOf script ds → datasAt script (dataPlaces ds) ≡ ds
@@ -215,7 +216,7 @@ module _ (segwit : Bool) where
     leaf-added (HashLock ripemd160 d) before o ts g e s = ap (λ (x : Data). some (leaf (HashLock ripemd160 x) ⊳ ts)) (sym e)
     leaf-added (HashLock hash160 d) before o ts g e s = ap (λ (x : Data). some (leaf (HashLock hash160 x) ⊳ ts)) (sym e)
     leaf-added (Multi k ks) before o ts g e s =
-        let h = and-left (allMultiKeys segwit ks) (within 1 k (length ks)) (and-right (multiCount (length ks)) (allMultiKeys segwit ks && within 1 k (length ks)) g) in
+        let h = left-true (allMultiKeys segwit ks) (within 1 k (length ks)) (right-true (multiCount (length ks)) (allMultiKeys segwit ks && within 1 k (length ks)) g) in
         rw (part-read (keyPlaces ks) before (length ks) s (places-length ks), keys-read segwit ks h e)
     leaf-added (MultiA k d ds) before o ts g e s =
         ap (λ (ps : List ℕ). multiAOf k (datasAt script ps) ts) (part-read (dataPlaces (d ∷ ds)) before (suc (length ds)) s (ap suc (data-length ds))) ∙ ap (λ (l : List Data). multiAOf k l ts) (datas-read (d ∷ ds) e)
@@ -236,27 +237,27 @@ module _ (segwit : Bool) where
           let r = rootNode segwit (join c x y) before in
           let b = before + keyCount y in
           rw (append-assoc (nodesOf segwit before y) (nodesOf segwit b x ++ (r ∷ [])) rest, append-assoc (nodesOf segwit b x) (r ∷ []) rest)
-          (nodes-read y before (and-right (allowed segwit x) (allowed segwit y) g) (e .1) (first-part (keysOf y) (keysOf x) before s) (nodesOf segwit b x ++ (r ∷ rest)) ts
-          ∙ nodes-read x b (and-left (allowed segwit x) (allowed segwit y) g) (e .0) (second-part (keysOf y) (keysOf x) before (keyCount y) s (keys-length y)) (r ∷ rest) (y ⊳ ts)
+          (nodes-read y before (right-true (allowed segwit x) (allowed segwit y) g) (e .1) (first-part (keysOf y) (keysOf x) before s) (nodesOf segwit b x ++ (r ∷ rest)) ts
+          ∙ nodes-read x b (left-true (allowed segwit x) (allowed segwit y) g) (e .0) (second-part (keysOf y) (keysOf x) before (keyCount y) s (keys-length y)) (r ∷ rest) (y ⊳ ts)
           ∙ on-stack r rest (x ⊳ (y ⊳ ts)) (join c x y ⊳ ts) (join-added c (size (join c x y)) (typeOf segwit (join c x y)) x y ts))
       nodes-read (andOr x y z) before g e s rest ts =
           let r = rootNode segwit (andOr x y z) before in
           let b = before + keyCount y in
           let c = before + keyCount y + keyCount z in
-          let g′ = and-right (allowed segwit x) (allowed segwit y && allowed segwit z) g in
+          let g′ = right-true (allowed segwit x) (allowed segwit y && allowed segwit z) g in
           let s′ = second-part (keysOf y) (keysOf z ++ keysOf x) before (keyCount y) s (keys-length y) in
           rw (append-assoc (nodesOf segwit before y) (nodesOf segwit b z ++ (nodesOf segwit c x ++ (r ∷ []))) rest, append-assoc (nodesOf segwit b z) (nodesOf segwit c x ++ (r ∷ [])) rest, append-assoc (nodesOf segwit c x) (r ∷ []) rest)
-          (nodes-read y before (and-left (allowed segwit y) (allowed segwit z) g′) (e .1 .0) (first-part (keysOf y) (keysOf z ++ keysOf x) before s) (nodesOf segwit b z ++ (nodesOf segwit c x ++ (r ∷ rest))) ts
-          ∙ nodes-read z b (and-right (allowed segwit y) (allowed segwit z) g′) (e .1 .1) (first-part (keysOf z) (keysOf x) b s′) (nodesOf segwit c x ++ (r ∷ rest)) (y ⊳ ts)
-          ∙ nodes-read x c (and-left (allowed segwit x) (allowed segwit y && allowed segwit z) g) (e .0) (second-part (keysOf z) (keysOf x) b (keyCount z) s′ (keys-length z)) (r ∷ rest) (z ⊳ (y ⊳ ts))
+          (nodes-read y before (left-true (allowed segwit y) (allowed segwit z) g′) (e .1 .0) (first-part (keysOf y) (keysOf z ++ keysOf x) before s) (nodesOf segwit b z ++ (nodesOf segwit c x ++ (r ∷ rest))) ts
+          ∙ nodes-read z b (right-true (allowed segwit y) (allowed segwit z) g′) (e .1 .1) (first-part (keysOf z) (keysOf x) b s′) (nodesOf segwit c x ++ (r ∷ rest)) (y ⊳ ts)
+          ∙ nodes-read x c (left-true (allowed segwit x) (allowed segwit y && allowed segwit z) g) (e .0) (second-part (keysOf z) (keysOf x) b (keyCount z) s′ (keys-length z)) (r ∷ rest) (z ⊳ (y ⊳ ts))
           ∙ on-stack r rest (x ⊳ (z ⊳ (y ⊳ ts))) (andOr x y z ⊳ ts) (and-or-added (size (andOr x y z)) (typeOf segwit (andOr x y z)) x y z ts))
       nodes-read (thresh k x xs) before g e s rest ts =
           let r = rootNode segwit (thresh k x xs) before in
           let b = before + keyCounts xs in
-          let g′ = and-right (threshAllowed k x xs) (allowed segwit x && allAllowed segwit xs) g in
+          let g′ = right-true (threshAllowed k x xs) (allowed segwit x && allAllowed segwit xs) g in
           rw (append-assoc (nodesFrom segwit before xs) (nodesOf segwit b x ++ (r ∷ [])) rest, append-assoc (nodesOf segwit b x) (r ∷ []) rest)
-          (all-read xs before (and-right (allowed segwit x) (allAllowed segwit xs) g′) (e .1) (first-part (keyTable xs) (keysOf x) before s) (nodesOf segwit b x ++ (r ∷ rest)) ts
-          ∙ nodes-read x b (and-left (allowed segwit x) (allAllowed segwit xs) g′) (e .0) (second-part (keyTable xs) (keysOf x) before (keyCounts xs) s (key-table-length xs)) (r ∷ rest) (_⊕_ xs ts)
+          (all-read xs before (right-true (allowed segwit x) (allAllowed segwit xs) g′) (e .1) (first-part (keyTable xs) (keysOf x) before s) (nodesOf segwit b x ++ (r ∷ rest)) ts
+          ∙ nodes-read x b (left-true (allowed segwit x) (allAllowed segwit xs) g′) (e .0) (second-part (keyTable xs) (keysOf x) before (keyCounts xs) s (key-table-length xs)) (r ∷ rest) (_⊕_ xs ts)
           ∙ on-stack r rest (x ⊳ (_⊕_ xs ts)) (thresh k x xs ⊳ ts) (thresh-added k (size (thresh k x xs)) (typeOf segwit (thresh k x xs)) x xs ts))
 
       all-read : (xs : Trees) (before : ℕ) → allAllowed segwit xs ≡ true → TreesOf script xs → KeyPart (keyTable xs) before → (rest : List Node) (ts : Trees)
@@ -265,8 +266,8 @@ module _ (segwit : Bool) where
       all-read (x ⊳ xs) before g e s rest ts =
           let b = before + keyCounts xs in
           rw (append-assoc (nodesFrom segwit before xs) (nodesOf segwit b x) rest)
-          (all-read xs before (and-right (allowed segwit x) (allAllowed segwit xs) g) (e .1) (first-part (keyTable xs) (keysOf x) before s) (nodesOf segwit b x ++ rest) ts
-          ∙ nodes-read x b (and-left (allowed segwit x) (allAllowed segwit xs) g) (e .0) (second-part (keyTable xs) (keysOf x) before (keyCounts xs) s (key-table-length xs)) rest (_⊕_ xs ts))
+          (all-read xs before (right-true (allowed segwit x) (allAllowed segwit xs) g) (e .1) (first-part (keyTable xs) (keysOf x) before s) (nodesOf segwit b x ++ rest) ts
+          ∙ nodes-read x b (left-true (allowed segwit x) (allAllowed segwit xs) g) (e .0) (second-part (keyTable xs) (keysOf x) before (keyCounts xs) s (key-table-length xs)) rest (_⊕_ xs ts))
 
   pub one-whole : (script : List ℕ) (t : Tree) → KeyPart script (keyTable (t ⊳ nil)) (keysOf t) 0
   one-whole script t = record { front = []; back = []; whole = sym (append-nil (keysOf t)); behind = refl }

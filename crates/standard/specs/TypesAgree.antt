@@ -13,9 +13,9 @@ use Rattle.correctness.specs.Sanity.{Sound, SoundAnswer}
 use Rattle.correctness.specs.SanityLaws.{leaf-sound, alt-sound, swap-sound, check-sound, dupif-sound, verify-sound, nonzero-sound, zeronotequal-sound, and-b-sound, or-b-sound, or-d-sound, or-c-sound, and-v-sound, or-i-sound, and-or-sound, threshold-sound}
 use Rattle.correctness.specs.Bip379.{Letters, letters, letters-given, andor-row, thresh-row}
 use Rattle.correctness.specs.Bip379Laws.{leaf-agrees, alt-agrees, swap-agrees, check-agrees, dupif-agrees, dupif-in-tapscript, with-u, verify-agrees, nonzero-agrees, zeronotequal-agrees, and-v-agrees, and-b-agrees, or-b-agrees, or-d-agrees, or-c-agrees, or-i-agrees, and-or-agrees, threshold-agrees}
+use Rattle.tables.proofs.BoolLaws.{left-true, right-true}
 use Rattle.standard.specs.Tree.{Wrapper, alt, swap, check, dupIf, verify, nonZero, zeroNotEqual, Combination, andV, andB, orB, orD, orC, orI, Tree, Trees, leaf, wrap, join, andOr, thresh, nil, _⊳_}
 use Rattle.standard.specs.Types.{typedLeaf, wrapperRule, combinationRule, AllTyped, all, not-all, andThen, ruled, typeOf, typesOf, bipWrapper, bipCombination, having, havingBoth, bipType, bipTypes}
-use Rattle.standard.specs.RuleLaws.{and-left, and-right}
 
 -- 01's type in BIP 379's letters
 abbrev pub lettersOf : Typed → Option Letters
@@ -158,28 +158,28 @@ mutual
   pub types-agree : (segwit : Bool) (t : Tree) → follows segwit t ≡ true → lettersOf (typeOf segwit t) ≡ bipType segwit t
   types-agree segwit (leaf l) g = ap (λ (x : Letters). some x) (leaf-agrees (typedLeaf l))
   types-agree segwit (wrap w x) g =
-      let h = types-agree segwit x (and-right (segwit || not (isDupIf w)) (follows segwit x) g) in
-      one-agrees segwit w (and-left (segwit || not (isDupIf w)) (follows segwit x) g) (typeOf segwit x) (type-sound segwit x) ∙ ap (λ (b : Option Letters). having b (bipWrapper segwit w)) h
+      let h = types-agree segwit x (right-true (segwit || not (isDupIf w)) (follows segwit x) g) in
+      one-agrees segwit w (left-true (segwit || not (isDupIf w)) (follows segwit x) g) (typeOf segwit x) (type-sound segwit x) ∙ ap (λ (b : Option Letters). having b (bipWrapper segwit w)) h
   types-agree segwit (join c x y) g =
-      let hx = types-agree segwit x (and-left (follows segwit x) (follows segwit y) g) in
-      let hy = types-agree segwit y (and-right (follows segwit x) (follows segwit y) g) in
+      let hx = types-agree segwit x (left-true (follows segwit x) (follows segwit y) g) in
+      let hy = types-agree segwit y (right-true (follows segwit x) (follows segwit y) g) in
       two-agrees c (typeOf segwit x) (typeOf segwit y) ∙ simp (hx, hy)
   types-agree segwit (andOr x y z) g =
-      let g′ = and-right (follows segwit x) (follows segwit y && follows segwit z) g in
-      let hx = types-agree segwit x (and-left (follows segwit x) (follows segwit y && follows segwit z) g) in
-      let hy = types-agree segwit y (and-left (follows segwit y) (follows segwit z) g′) in
-      let hz = types-agree segwit z (and-right (follows segwit y) (follows segwit z) g′) in
+      let g′ = right-true (follows segwit x) (follows segwit y && follows segwit z) g in
+      let hx = types-agree segwit x (left-true (follows segwit x) (follows segwit y && follows segwit z) g) in
+      let hy = types-agree segwit y (left-true (follows segwit y) (follows segwit z) g′) in
+      let hz = types-agree segwit z (right-true (follows segwit y) (follows segwit z) g′) in
       three-agrees (typeOf segwit x) (typeOf segwit y) (typeOf segwit z) ∙ simp (hx, hy, hz)
   types-agree segwit (thresh k x xs) g =
-      let hx = types-agree segwit x (and-left (follows segwit x) (allFollow segwit xs) g) in
-      let hs = all-agree segwit xs (and-right (follows segwit x) (allFollow segwit xs) g) in
+      let hx = types-agree segwit x (left-true (follows segwit x) (allFollow segwit xs) g) in
+      let hs = all-agree segwit xs (right-true (follows segwit x) (allFollow segwit xs) g) in
       many-agree (typeOf segwit x) (typesOf segwit xs) ∙ simp (hx, hs)
 
   all-agree : (segwit : Bool) (ts : Trees) → allFollow segwit ts ≡ true → allLetters (typesOf segwit ts) ≡ bipTypes segwit ts
   all-agree segwit nil g = refl
   all-agree segwit (t ⊳ ts) g =
-      let h = types-agree segwit t (and-left (follows segwit t) (allFollow segwit ts) g) in
-      let hs = all-agree segwit ts (and-right (follows segwit t) (allFollow segwit ts) g) in
+      let h = types-agree segwit t (left-true (follows segwit t) (allFollow segwit ts) g) in
+      let hs = all-agree segwit ts (right-true (follows segwit t) (allFollow segwit ts) g) in
       next-agrees (typeOf segwit t) (typesOf segwit ts) ∙ simp (h, hs)
 
 -- on every tree of a segwit script

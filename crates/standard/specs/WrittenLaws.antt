@@ -1,6 +1,6 @@
 -- The written form, row by row as BIP 379 prints it: each row of its table of scripts is an equation between lists. What is written before a rest is the written form and then the rest (`written-before`).
 use mathlib.Core.Path.{_≡_, refl, sym, ap, _∙_}
-use mathlib.Core.List.{List, [], _∷_, _++_, append-assoc}
+use mathlib.Core.List.{List, [], _∷_, _++_, append-assoc, append-nil}
 use Prim.Native.Nat.{ℕ}
 use lib.ListN.{length}
 use Rattle.lex.specs.Token.{Data, Lexeme, op, num, push}
@@ -103,10 +103,6 @@ unfolding written
 written-thresh k x xs = written-before x (addedTreesBefore xs (num k ∷ op EQUAL ∷ [])) ∙ ap (λ (l : List Lexeme). treeBefore x [] ++ l) (added-written xs (num k ∷ op EQUAL ∷ []))
 
 -- the wrappers: a: TOALTSTACK [X] FROMALTSTACK, s: SWAP [X], c: [X] CHECKSIG, d: DUP IF [X] ENDIF, v: [X] VERIFY, j: SIZE 0NOTEQUAL IF [X] ENDIF, n: [X] 0NOTEQUAL
-append-nil : (l : List Lexeme) → l ++ [] ≡ l
-append-nil [] = refl
-append-nil (x ∷ l) = ap (λ (t : List Lexeme). x ∷ t) (append-nil l)
-
 pub written-wrap : (w : Wrapper) (x : Tree) → written (wrap w x) ≡ opening w ++ (written x ++ closing w)
 unfolding written
 written-wrap w x = ap (λ (l : List Lexeme). opening w ++ l) (ap (treeBefore x) (append-nil (closing w)) ∙ written-before x (closing w))

@@ -4,3 +4,4 @@ pub mod FlatLaws
 pub mod NewestLaws
 pub mod ClearLaws
 pub mod BoolLaws
+pub mod ListLaws

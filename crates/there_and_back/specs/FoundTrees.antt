@@ -12,12 +12,14 @@ use lib.ListN.{length, drop, length-drop}
 use lib.Seq.{length-take-le}
 use Rattle.lex.specs.Token.{Data, dataAt, dataLength}
 use Rattle.tables.specs.Choose.{pick}
+use Rattle.tables.proofs.BoolLaws.{left-true, right-true, both-true}
 use Rattle.standard.specs.Tree.{key, sha256, hash256, ripemd160, hash160, True, False, PkK, RawPkH, After, Older, HashLock, Multi, MultiA, Wrapper, Combination, Tree, Trees, leaf, wrap, join, andOr, thresh, nil, _⊳_, many}
 use Rattle.standard.specs.Allowed.{within, keyForm, allMultiKeys, allMultiAKeys, locktime, multiCount, multiAThreshold, allowed, allAllowed}
-use Rattle.standard.specs.RuleLaws.{and-left, and-right}
 use Rattle.standard.specs.Table.{Node, Terminal, noTerminal, isTrue, isFalse, isPkK, isRawPkH, isAfter, isOlder, isHash, isWrapper, isCombination, isAndOr, isThresh, isMulti, isMultiA, terminalOf, takeTrees, keyCode, keyLength, keysAt, datasAt, multiAOf, wrapTop, joinTop, andOrTop, threshTop, addTerminal}
+use Rattle.standard.specs.TableLaws.{keys-at-length, datas-at-length}
 use Rattle.there_and_back.specs.Ranged.{DataIn, KeysIn, DatasIn, TreeIn, TreesIn}
-use Rattle.encoding.specs.Form.{Shape, shape, shapeOf, keysNamed, unusedAreZero, inRange, allWithin, rightSize, formedAs, wellFormed}
+use Rattle.encoding.specs.Form.{shape, shapeOf, keysNamed, allWithin, formedAs, wellFormed}
+use Rattle.encoding.specs.FormLaws.{in-range, keys-range}
 use Rattle.encoding.specs.Values.{valueRefusalOf, valueRefusal}
 use Rattle.encoding.proofs.Stands.{Stands, empty, more}
 
@@ -31,18 +33,7 @@ neither-refusing : (a b : Bool) (n m : ℕ) → pick a (pick b 0 (suc n)) (suc m
 neither-refusing true b n m e = (refl, not-refusing b n e)
 neither-refusing false b n m e = let no : ⊥ = omega arith in absurd no
 
-both-true : {a b : Bool} → a ≡ true → b ≡ true → (a && b) ≡ true
-both-true e f = rw (e, f)
-
 -- as many keys as the node counts
-keys-at-length : (material : List ℕ) (ps : List ℕ) → length (keysAt material ps) ≡ length ps
-keys-at-length material [] = refl
-keys-at-length material (p ∷ ps) = ap suc (keys-at-length material ps)
-
-datas-at-length : (material : List ℕ) (ps : List ℕ) → length (datasAt material ps) ≡ length ps
-datas-at-length material [] = refl
-datas-at-length material (p ∷ ps) = ap suc (datas-at-length material ps)
-
 pub named-length : (n : Node) (keys : List ℕ) → n .place + n .count ≤ length keys → length (keysNamed n keys) ≡ n .count
 named-length n keys h = length-take-le (n .count) (drop (n .place) keys) (omega (arith, length-drop (n .place) keys))
 
@@ -57,10 +48,10 @@ good-more : (segwit : Bool) (material : List ℕ) (t : Tree) (ts : Trees) → Go
 good-more segwit material t ts g h = (both-true (g .0) (h .0), (g .1, h .1))
 
 good-first : (segwit : Bool) (material : List ℕ) (t : Tree) (ts : Trees) → AllGood segwit material (t ⊳ ts) → Good segwit material t
-good-first segwit material t ts h = (and-left (allowed segwit t) (allAllowed segwit ts) (h .0), h .1 .0)
+good-first segwit material t ts h = (left-true (allowed segwit t) (allAllowed segwit ts) (h .0), h .1 .0)
 
 good-rest : (segwit : Bool) (material : List ℕ) (t : Tree) (ts : Trees) → AllGood segwit material (t ⊳ ts) → AllGood segwit material ts
-good-rest segwit material t ts h = (and-right (allowed segwit t) (allAllowed segwit ts) (h .0), h .1 .1)
+good-rest segwit material t ts h = (right-true (allowed segwit t) (allAllowed segwit ts) (h .0), h .1 .1)
 
 -- every tree of a stack, if there is one
 abbrev GoodTrees : Bool → List ℕ → Option Trees → Type 0
@@ -122,32 +113,20 @@ keys-in : (material ps : List ℕ) → allWithin 33 (length material) ps ≡ tru
 unfolding dataLength
 keys-in material [] h = tt
 keys-in material (p ∷ ps) h =
-    ((refl, leb-true (p + 33) (length material) (and-left (leb (p + 33) (length material)) _ h)), keys-in material ps (and-right (leb (p + 33) (length material)) _ h))
+    ((refl, leb-true (p + 33) (length material) (left-true (leb (p + 33) (length material)) _ h)), keys-in material ps (right-true (leb (p + 33) (length material)) _ h))
 
 datas-in : (material ps : List ℕ) → allWithin 32 (length material) ps ≡ true → DatasIn material (datasAt material ps)
 unfolding dataLength
 datas-in material [] h = tt
 datas-in material (p ∷ ps) h =
-    ((refl, leb-true (p + 32) (length material) (and-left (leb (p + 32) (length material)) _ h)), datas-in material ps (and-right (leb (p + 32) (length material)) _ h))
+    ((refl, leb-true (p + 32) (length material) (left-true (leb (p + 32) (length material)) _ h)), datas-in material ps (right-true (leb (p + 32) (length material)) _ h))
 
 multi-a-good : (segwit : Bool) (material : List ℕ) (k : ℕ) (ds : List Data) (ts : Trees) → allMultiAKeys segwit ds ≡ true
     → (multiAThreshold k && (leb k (length ds) && leb (length ds) 999)) ≡ true → DatasIn material ds → AllGood segwit material ts → GoodTrees segwit material (multiAOf k ds ts)
 multi-a-good segwit material k [] ts a b e g = tt
 multi-a-good segwit material k (d ∷ ds) ts a b e g =
     good-more segwit material (leaf (MultiA k d ds)) ts
-    (both-true (and-left (multiAThreshold k) _ b) (both-true a (and-right (multiAThreshold k) _ b)), e) g
-
--- a well-formed node's places lie in range
-in-range : (material : ℕ) (keys : List ℕ) (s : Shape) (n : Node) (ts : Trees) → formedAs material keys (some s) n ts ≡ true → inRange material keys s n ≡ true
-in-range material keys s n ts f = and-left (inRange material keys s n) (rightSize s n ts) (and-right (unusedAreZero s n) (inRange material keys s n && rightSize s n ts) f)
-
-keys-range : (material : ℕ) (keys : List ℕ) (bytes : ℕ) (n : Node) (ts : Trees) → leb 1 bytes ≡ true → formedAs material keys (some (shape true false 0 bytes 0)) n ts ≡ true
-    → (n .place + n .count ≤ length keys) × (allWithin bytes material (keysNamed n keys) ≡ true)
-keys-range material keys bytes n ts some-bytes f =
-    let r : (leb (n .place + n .count) (length keys) && allWithin bytes material (keysNamed n keys)) ≡ true = rw some-bytes at (in-range material keys (shape true false 0 bytes 0) n ts f) in (
-      leb-true (n .place + n .count) (length keys) (and-left (leb (n .place + n .count) (length keys)) (allWithin bytes material (keysNamed n keys)) r),
-      and-right (leb (n .place + n .count) (length keys)) (allWithin bytes material (keysNamed n keys)) r,
-    )
+    (both-true (left-true (multiAThreshold k) _ b) (both-true a (right-true (multiAThreshold k) _ b)), e) g
 
 module _ (segwit : Bool) (material keys : List ℕ) where
   -- a node's tree
@@ -183,7 +162,7 @@ module _ (segwit : Bool) (material keys : List ℕ) where
       let p = neither-refusing (allMultiKeys segwit ks) (multiCount (n .count) && within 1 (n .number) (n .count)) 12 10 v in
       let q : (multiCount (length ks) && within 1 (n .number) (length ks)) ≡ true = ap (λ (j : ℕ). multiCount j && within 1 (n .number) j) l ∙ p .1 in
       good-more segwit material (leaf (Multi (n .number) ks)) ts
-      (both-true (and-left (multiCount (length ks)) _ q) (both-true (p .0) (and-right (multiCount (length ks)) _ q)), keys-in material (keysNamed n keys) (r .1)) g
+      (both-true (left-true (multiCount (length ks)) _ q) (both-true (p .0) (right-true (multiCount (length ks)) _ q)), keys-in material (keysNamed n keys) (r .1)) g
   terminal-good isMultiA n ts f v g =
       let ds = datasAt material (keysNamed n keys) in
       let r = keys-range (length material) keys 32 n ts refl f in

@@ -20,10 +20,12 @@ use Rattle.correctness.specs.Rules.{onward, leafType, threshold}
 use Rattle.lex.specs.Token.{Data, dataAt, dataLength, BYTES32, BYTES33}
 use Rattle.tables.specs.Choose.{pick}
 use Rattle.tables.specs.Tables.{flat}
+use Rattle.tables.proofs.BoolLaws.{left-true, right-true, both-true}
 use Rattle.standard.specs.Tree.{Key, key, sha256, hash256, ripemd160, hash160, Leaf, True, False, PkK, RawPkH, After, Older, HashLock, Multi, MultiA, Wrapper, alt, swap, check, dupIf, verify, nonZero, zeroNotEqual, Combination, andV, andB, orB, orD, orC, orI, Tree, Trees, leaf, wrap, join, andOr, thresh, nil, _⊳_, _⊕_, many, size, keyCount, keyCounts}
+use Rattle.standard.specs.TreeLaws.{many-append}
 use Rattle.standard.specs.Allowed.{within, keyForm, multiKey, allMultiKeys, allMultiAKeys, locktime, multiCount, multiAThreshold, allowedLeaf, threshAllowed, allowed, allAllowed}
 use Rattle.standard.specs.Types.{typedLeaf, wrapperRule, combinationRule, AllTyped, all, not-all, andThen, ruled, typeOf, typesOf, WellTypedB}
-use Rattle.standard.specs.RuleLaws.{and-left, and-right, onward-is}
+use Rattle.standard.specs.RuleLaws.{onward-is}
 use Rattle.standard.specs.Table.{Node, node, nodeAt, nodeCells, cells, terminalOf, wrapperKind, combinationKind, andOrKind, threshKind, leafNode, rootNode, keyPlaces, dataPlaces, keysOf, keyTable, nodesOf, nodesFrom, nodeTable, leafOffsets, keyCode, keyLength, keysAt, datasAt, addNode, Terminal, isPkK, isWrapper, isCombination, isAndOr, isThresh, KeysOf, DatasOf, LeafOf}
 use Rattle.standard.specs.TableLaws.{KeyPart, key-read, keys-read, datas-read, part-read, first-part, second-part, one-whole, places-length, data-length, keys-length, key-table-length, wrap-added, join-added, and-or-added, thresh-added, leaf-added}
 use Rattle.encoding.specs.Form.{Shape, shape, shapeOf, unusedAreZero, inRange, allWithin, childCount, sizesOfFirst, formedAs, wellFormed}
@@ -36,9 +38,6 @@ use Rattle.judge.specs.Nodes.{noNode}
 use Rattle.judge.specs.NodeTableLaws.{node-read}
 use Rattle.encoding.proofs.Passed.{first-sizes}
 use Rattle.there_and_back.specs.Ranged.{DataIn, KeysIn, DatasIn, LeafIn, TreeIn, TreesIn}
-
-both-true : {a b : Bool} → a ≡ true → b ≡ true → (a && b) ≡ true
-both-true e f = rw (e, f)
 
 -- a node of a type holds it
 held : (kind number count place size : ℕ) (c : Correctness) → holdsType (node kind number count place size (Is c)) c ≡ true
@@ -82,13 +81,13 @@ module _ (segwit : Bool) (script keys : List ℕ) where
   unfolding dataLength
   keys-within [] g i = refl
   keys-within (key code d ∷ ks) g i =
-      let form = and-right segwit (keyForm segwit (key code d)) (and-left (multiKey segwit (key code d)) (allMultiKeys segwit ks) g) in
-      let c : code ≡ BYTES33 = multi-code segwit (and-left segwit (keyForm segwit (key code d)) (and-left (multiKey segwit (key code d)) (allMultiKeys segwit ks) g)) form in
+      let form = right-true segwit (keyForm segwit (key code d)) (left-true (multiKey segwit (key code d)) (allMultiKeys segwit ks) g) in
+      let c : code ≡ BYTES33 = multi-code segwit (left-true segwit (keyForm segwit (key code d)) (left-true (multiKey segwit (key code d)) (allMultiKeys segwit ks) g)) form in
       let r : d .place + dataLength BYTES33 ≤ length script = rw c at (i .0 .1) in
-      both-true (le-leb (d .place + 33) (length script) r) (keys-within ks (and-right (multiKey segwit (key code d)) (allMultiKeys segwit ks) g) (i .1))
+      both-true (le-leb (d .place + 33) (length script) r) (keys-within ks (right-true (multiKey segwit (key code d)) (allMultiKeys segwit ks) g) (i .1))
     where
       multi-code : (z : Bool) → z ≡ true → keyForm z (key code d) ≡ true → code ≡ BYTES33
-      multi-code true e f = eqb-true code BYTES33 (and-left (eqb code BYTES33) _ f)
+      multi-code true e f = eqb-true code BYTES33 (left-true (eqb code BYTES33) _ f)
       multi-code false e f = absurd (true≢false (sym e))
 
   datas-within : (ds : List Data) → DatasIn script ds → allWithin 32 (length script) (dataPlaces ds) ≡ true
@@ -107,7 +106,7 @@ module _ (segwit : Bool) (script keys : List ℕ) where
       → formedAs (length script) keys (shapeOf z isPkK) (node 3 0 0 (d .place) 1 c) ts ≡ true
   unfolding dataLength
   key-checked true code d c ts g i =
-      let e : code ≡ BYTES33 = eqb-true code BYTES33 (and-left (eqb code BYTES33) _ g) in
+      let e : code ≡ BYTES33 = eqb-true code BYTES33 (left-true (eqb code BYTES33) _ g) in
       let r : d .place + dataLength BYTES33 ≤ length script = rw e at (i .1) in
       formed (shape false false 33 0 0) (node 3 0 0 (d .place) 1 c) ts refl (le-leb (d .place + 33) (length script) r) (omega arith) refl
   key-checked false code d c ts g i =
@@ -130,7 +129,7 @@ module _ (segwit : Bool) (script keys : List ℕ) where
   leaf-formed (HashLock hash160 d) before c ts g i s = formed (shape false false 20 0 0) (leafNode (HashLock hash160 d) before c) ts refl (le-leb (d .place + 20) (length script) (i .1)) (omega arith) refl
   leaf-formed (Multi k ks) before c ts g i s =
       let p = part-read segwit script keys (keyPlaces ks) before (length ks) s (places-length ks) in
-      let h = and-left (allMultiKeys segwit ks) (within 1 k (length ks)) (and-right (multiCount (length ks)) (allMultiKeys segwit ks && within 1 k (length ks)) g) in
+      let h = left-true (allMultiKeys segwit ks) (within 1 k (length ks)) (right-true (multiCount (length ks)) (allMultiKeys segwit ks && within 1 k (length ks)) g) in
       formed (shape true false 0 33 0) (leafNode (Multi k ks) before c) ts refl
       (both-true (le-leb (before + length ks) (length keys) (part-within (keyPlaces ks) before (length ks) s (places-length ks))) (ap (allWithin 33 (length script)) p ∙ keys-within ks h i)) (omega arith) refl
   leaf-formed (MultiA k d ds) before c ts g i s =
@@ -159,20 +158,20 @@ module _ (segwit : Bool) (script keys : List ℕ) where
   leaf-valued (HashLock ripemd160 d) before c g i s = refl
   leaf-valued (HashLock hash160 d) before c g i s = refl
   leaf-valued (Multi k ks) before c g i s =
-      let h = and-right (multiCount (length ks)) (allMultiKeys segwit ks && within 1 k (length ks)) g in
-      let a = and-left (allMultiKeys segwit ks) (within 1 k (length ks)) h in
+      let h = right-true (multiCount (length ks)) (allMultiKeys segwit ks && within 1 k (length ks)) g in
+      let a = left-true (allMultiKeys segwit ks) (within 1 k (length ks)) h in
       let same : keysAt script (take (length ks) (drop before keys)) ≡ ks =
       ap (keysAt script) (part-read segwit script keys (keyPlaces ks) before (length ks) s (places-length ks)) ∙ keys-read segwit script keys segwit ks a (data-of-keys ks i) in
       two-tests (allMultiKeys segwit (keysAt script (take (length ks) (drop before keys)))) (multiCount (length ks) && within 1 k (length ks)) 13 11
-      (ap (allMultiKeys segwit) same ∙ a) (both-true (and-left (multiCount (length ks)) (allMultiKeys segwit ks && within 1 k (length ks)) g) (and-right (allMultiKeys segwit ks) (within 1 k (length ks)) h))
+      (ap (allMultiKeys segwit) same ∙ a) (both-true (left-true (multiCount (length ks)) (allMultiKeys segwit ks && within 1 k (length ks)) g) (right-true (allMultiKeys segwit ks) (within 1 k (length ks)) h))
   leaf-valued (MultiA k d ds) before c g i s =
-      let h = and-right (multiAThreshold k) (allMultiAKeys segwit (d ∷ ds) && (leb k (suc (length ds)) && leb (suc (length ds)) 999)) g in
-      let a = and-left (allMultiAKeys segwit (d ∷ ds)) (leb k (suc (length ds)) && leb (suc (length ds)) 999) h in
+      let h = right-true (multiAThreshold k) (allMultiAKeys segwit (d ∷ ds) && (leb k (suc (length ds)) && leb (suc (length ds)) 999)) g in
+      let a = left-true (allMultiAKeys segwit (d ∷ ds)) (leb k (suc (length ds)) && leb (suc (length ds)) 999) h in
       let same : datasAt script (take (suc (length ds)) (drop before keys)) ≡ d ∷ ds =
       ap (datasAt script) (part-read segwit script keys (dataPlaces (d ∷ ds)) before (suc (length ds)) s (ap suc (data-length ds))) ∙ datas-read segwit script keys (d ∷ ds) (data-of-datas (d ∷ ds) i) in
       two-tests (allMultiAKeys segwit (datasAt script (take (suc (length ds)) (drop before keys)))) (multiAThreshold k && (leb k (suc (length ds)) && leb (suc (length ds)) 999)) 13 11
       (ap (allMultiAKeys segwit) same ∙ a)
-      (both-true (and-left (multiAThreshold k) _ g) (and-right (allMultiAKeys segwit (d ∷ ds)) (leb k (suc (length ds)) && leb (suc (length ds)) 999) h))
+      (both-true (left-true (multiAThreshold k) _ g) (right-true (allMultiAKeys segwit (d ∷ ds)) (leb k (suc (length ds)) && leb (suc (length ds)) 999) h))
 
   -- a node whose type is known holds it
   holds : (kind number count place size : ℕ) (o : Typed) (c : Correctness) → o ≡ Is c → holdsType (node kind number count place size o) c ≡ true
@@ -261,10 +260,6 @@ module _ (segwit : Bool) (script keys : List ℕ) where
       parent-checked andOrKind isAndOr (shape false false 0 0 3) 0 0 (size (andOr x y z)) (typeOf segwit (andOr x y z)) c (x ⊳ (z ⊳ (y ⊳ ts))) ts (andOr x y z) and-or-terminal refl
       (formed (shape false false 0 0 3) n (x ⊳ (z ⊳ (y ⊳ ts))) refl in-range-no-place (omega arith) (omega arith)) refl (and-or-added segwit script keys (size (andOr x y z)) (typeOf segwit (andOr x y z)) x y z ts) e e
 
-  many-append : (xs ts : Trees) → many xs ≤ many (_⊕_ xs ts)
-  many-append nil ts = omega arith
-  many-append (x ⊳ xs) ts = omega (arith, many-append xs ts)
-
   thresh-checked : (k : ℕ) (x : Tree) (xs ts : Trees) (c : Correctness) → threshAllowed k x xs ≡ true → typeOf segwit (thresh k x xs) ≡ Is c
       → checkNode segwit script keys (rootNode segwit (thresh k x xs) 0) (x ⊳ (_⊕_ xs ts)) ≡ finished (thresh k x xs ⊳ ts)
   thresh-checked k x xs ts c g e =
@@ -311,32 +306,32 @@ module _ (segwit : Bool) (script keys : List ℕ) where
         let a = onward-is (typeOf segwit x) (λ p. onward (typeOf segwit y) (λ q. combinationRule k p q)) (t .0) (t .1) in
         let c = onward-is (typeOf segwit y) (λ q. combinationRule k (a .0) q) (t .0) (a .2) in
         rw (append-assoc (nodesOf segwit before y) (nodesOf segwit b x ++ (r ∷ [])) rest, append-assoc (nodesOf segwit b x) (r ∷ []) rest)
-        (nodes-checked y before (and-right (allowed segwit x) (allowed segwit y) g) (i .1) (c .0, c .1) (first-part segwit script keys (keysOf y) (keysOf x) before s) (nodesOf segwit b x ++ (r ∷ rest)) ts
-        ∙ nodes-checked x b (and-left (allowed segwit x) (allowed segwit y) g) (i .0) (a .0, a .1) (second-part segwit script keys (keysOf y) (keysOf x) before (keyCount y) s (keys-length y)) (r ∷ rest) (y ⊳ ts)
+        (nodes-checked y before (right-true (allowed segwit x) (allowed segwit y) g) (i .1) (c .0, c .1) (first-part segwit script keys (keysOf y) (keysOf x) before s) (nodesOf segwit b x ++ (r ∷ rest)) ts
+        ∙ nodes-checked x b (left-true (allowed segwit x) (allowed segwit y) g) (i .0) (a .0, a .1) (second-part segwit script keys (keysOf y) (keysOf x) before (keyCount y) s (keys-length y)) (r ∷ rest) (y ⊳ ts)
         ∙ on-stack r rest (x ⊳ (y ⊳ ts)) (join k x y ⊳ ts) (join-checked k x y ts (t .0) (t .1)))
     nodes-checked (andOr x y z) before g i t s rest ts =
         let r = rootNode segwit (andOr x y z) before in
         let b = before + keyCount y in
         let c = before + keyCount y + keyCount z in
-        let h = and-right (allowed segwit x) (allowed segwit y && allowed segwit z) g in
+        let h = right-true (allowed segwit x) (allowed segwit y && allowed segwit z) g in
         let part = second-part segwit script keys (keysOf y) (keysOf z ++ keysOf x) before (keyCount y) s (keys-length y) in
         let p = onward-is (typeOf segwit x) (λ a. onward (typeOf segwit y) (λ b. onward (typeOf segwit z) (λ c. rules.andOr a b c))) (t .0) (t .1) in
         let q = onward-is (typeOf segwit y) (λ b. onward (typeOf segwit z) (λ c. rules.andOr (p .0) b c)) (t .0) (p .2) in
         let u = onward-is (typeOf segwit z) (λ c. rules.andOr (p .0) (q .0) c) (t .0) (q .2) in
         rw (append-assoc (nodesOf segwit before y) (nodesOf segwit b z ++ (nodesOf segwit c x ++ (r ∷ []))) rest, append-assoc (nodesOf segwit b z) (nodesOf segwit c x ++ (r ∷ [])) rest, append-assoc (nodesOf segwit c x) (r ∷ []) rest)
-        (nodes-checked y before (and-left (allowed segwit y) (allowed segwit z) h) (i .1 .0) (q .0, q .1) (first-part segwit script keys (keysOf y) (keysOf z ++ keysOf x) before s) (nodesOf segwit b z ++ (nodesOf segwit c x ++ (r ∷ rest))) ts
-        ∙ nodes-checked z b (and-right (allowed segwit y) (allowed segwit z) h) (i .1 .1) (u .0, u .1) (first-part segwit script keys (keysOf z) (keysOf x) b part) (nodesOf segwit c x ++ (r ∷ rest)) (y ⊳ ts)
-        ∙ nodes-checked x c (and-left (allowed segwit x) (allowed segwit y && allowed segwit z) g) (i .0) (p .0, p .1) (second-part segwit script keys (keysOf z) (keysOf x) b (keyCount z) part (keys-length z)) (r ∷ rest) (z ⊳ (y ⊳ ts))
+        (nodes-checked y before (left-true (allowed segwit y) (allowed segwit z) h) (i .1 .0) (q .0, q .1) (first-part segwit script keys (keysOf y) (keysOf z ++ keysOf x) before s) (nodesOf segwit b z ++ (nodesOf segwit c x ++ (r ∷ rest))) ts
+        ∙ nodes-checked z b (right-true (allowed segwit y) (allowed segwit z) h) (i .1 .1) (u .0, u .1) (first-part segwit script keys (keysOf z) (keysOf x) b part) (nodesOf segwit c x ++ (r ∷ rest)) (y ⊳ ts)
+        ∙ nodes-checked x c (left-true (allowed segwit x) (allowed segwit y && allowed segwit z) g) (i .0) (p .0, p .1) (second-part segwit script keys (keysOf z) (keysOf x) b (keyCount z) part (keys-length z)) (r ∷ rest) (z ⊳ (y ⊳ ts))
         ∙ on-stack r rest (x ⊳ (z ⊳ (y ⊳ ts))) (andOr x y z ⊳ ts) (and-or-checked x y z ts (t .0) (t .1)))
     nodes-checked (thresh k x xs) before g i t s rest ts =
         let r = rootNode segwit (thresh k x xs) before in
         let b = before + keyCounts xs in
-        let h = and-right (threshAllowed k x xs) (allowed segwit x && allAllowed segwit xs) g in
+        let h = right-true (threshAllowed k x xs) (allowed segwit x && allAllowed segwit xs) g in
         let p = children-typable (typeOf segwit x) (typesOf segwit xs) (t .0) (t .1) in
         rw (append-assoc (nodesFrom segwit before xs) (nodesOf segwit b x ++ (r ∷ [])) rest, append-assoc (nodesOf segwit b x) (r ∷ []) rest)
-        (trees-checked xs before (and-right (allowed segwit x) (allAllowed segwit xs) h) (i .1) (p .1) (first-part segwit script keys (keyTable xs) (keysOf x) before s) (nodesOf segwit b x ++ (r ∷ rest)) ts
-        ∙ nodes-checked x b (and-left (allowed segwit x) (allAllowed segwit xs) h) (i .0) (p .0) (second-part segwit script keys (keyTable xs) (keysOf x) before (keyCounts xs) s (key-table-length xs)) (r ∷ rest) (_⊕_ xs ts)
-        ∙ on-stack r rest (x ⊳ (_⊕_ xs ts)) (thresh k x xs ⊳ ts) (thresh-checked k x xs ts (t .0) (and-left (threshAllowed k x xs) (allowed segwit x && allAllowed segwit xs) g) (t .1)))
+        (trees-checked xs before (right-true (allowed segwit x) (allAllowed segwit xs) h) (i .1) (p .1) (first-part segwit script keys (keyTable xs) (keysOf x) before s) (nodesOf segwit b x ++ (r ∷ rest)) ts
+        ∙ nodes-checked x b (left-true (allowed segwit x) (allAllowed segwit xs) h) (i .0) (p .0) (second-part segwit script keys (keyTable xs) (keysOf x) before (keyCounts xs) s (key-table-length xs)) (r ∷ rest) (_⊕_ xs ts)
+        ∙ on-stack r rest (x ⊳ (_⊕_ xs ts)) (thresh k x xs ⊳ ts) (thresh-checked k x xs ts (t .0) (left-true (threshAllowed k x xs) (allowed segwit x && allAllowed segwit xs) g) (t .1)))
 
     trees-checked : (xs : Trees) (before : ℕ) → allAllowed segwit xs ≡ true → TreesIn script xs → AllTypable xs → KeyPart segwit script keys (keyTable xs) before → (rest : List Node) (ts : Trees)
         → checkNodes segwit script keys (nodesFrom segwit before xs ++ rest) ts ≡ checkNodes segwit script keys rest (_⊕_ xs ts)
@@ -345,8 +340,8 @@ module _ (segwit : Bool) (script keys : List ℕ) where
         let b = before + keyCounts xs in
         let p = first-typable (typeOf segwit x) (typesOf segwit xs) (t .0) (t .1) in
         rw (append-assoc (nodesFrom segwit before xs) (nodesOf segwit b x) rest)
-        (trees-checked xs before (and-right (allowed segwit x) (allAllowed segwit xs) g) (i .1) (p .1) (first-part segwit script keys (keyTable xs) (keysOf x) before s) (nodesOf segwit b x ++ rest) ts
-        ∙ nodes-checked x b (and-left (allowed segwit x) (allAllowed segwit xs) g) (i .0) (p .0) (second-part segwit script keys (keyTable xs) (keysOf x) before (keyCounts xs) s (key-table-length xs)) rest (_⊕_ xs ts))
+        (trees-checked xs before (right-true (allowed segwit x) (allAllowed segwit xs) g) (i .1) (p .1) (first-part segwit script keys (keyTable xs) (keysOf x) before s) (nodesOf segwit b x ++ rest) ts
+        ∙ nodes-checked x b (left-true (allowed segwit x) (allAllowed segwit xs) g) (i .0) (p .0) (second-part segwit script keys (keyTable xs) (keysOf x) before (keyCounts xs) s (key-table-length xs)) rest (_⊕_ xs ts))
 
 -- The node table as numbers, read back
 

@@ -3,13 +3,14 @@
 use mathlib.Core.Path.{_≡_, sym, ap, _∙_}
 use mathlib.Core.Bool.{Bool, true, false}
 use mathlib.Core.List.{List, [], _∷_, _++_}
-use Prim.Native.Nat.{ℕ, zero, suc, _≤_}
+use Prim.Native.Nat.{ℕ, _≤_}
 use native.Mathlib.Omega.{arith}
 use lib.Dec.{eqb}
 use lib.ListN.{length, take, drop, length-drop}
 use Rattle.lex.specs.Token.{Data, dataLength, Lexeme, op, num, push, HASH20, BYTES32}
 use Rattle.tables.specs.Choose.{pick}
 use Rattle.tables.specs.Tables.{flat}
+use Rattle.tables.proofs.ListLaws.{take-whole}
 use Rattle.spelling.specs.Lexemes.{Formed, AllFormed, ButForNumEqualVerify, none, same, apart, Spells}
 use Rattle.spelling.specs.Spell.{spell}
 use lib.ListN.{length-append}
@@ -17,12 +18,6 @@ use Rattle.standard.specs.Tree.{Key, key, Leaf, True, False, PkK, RawPkH, After
 use Rattle.standard.specs.Written.{hashPush, keysBefore, addedKeysBefore, leafBefore, opening, closing, first, between, last, treeBefore, addedTreesBefore, written}
 use Rattle.standard.specs.Table.{DataOf, KeysOf, DatasOf, LeafOf, TreeOf, TreesOf}
 use Rattle.there_and_back.specs.Ranged.{DataIn, KeysIn, DatasIn, LeafIn, TreeIn, TreesIn}
-
--- a part that is there whole ends within the list
-whole-part : (n : ℕ) (l : List ℕ) → length (take n l) ≡ n → n ≤ length l
-whole-part zero l e = omega arith
-whole-part (suc n) [] e = let no : ⊥ = omega arith in absurd no
-whole-part (suc n) (x ∷ l) e = let r = whole-part n l (omega arith) in omega arith
 
 data-length-some : (c : ℕ) → 1 ≤ dataLength c
 unfolding dataLength
@@ -81,7 +76,7 @@ module _ (script : List ℕ) where
   push-in : (code : ℕ) (d : Data) → Formed (push code d) → DataOf script code d → DataIn script code d
   push-in code d f e =
       let part : length (take (dataLength code) (drop (d .place) script)) ≡ dataLength code = ap (λ (x : Data). length (x .bytes)) (sym e) ∙ f .2 in
-      let r : dataLength code ≤ length (drop (d .place) script) = whole-part (dataLength code) (drop (d .place) script) part in
+      let r : dataLength code ≤ length (drop (d .place) script) = take-whole (dataLength code) (drop (d .place) script) part in
       (e, omega (arith, length-drop (d .place) script, data-length-some code))
 
   keys-in : (ks : List Key) (rest : List Lexeme) → AllFormed (keysBefore ks rest) → KeysOf script ks → KeysIn script ks × AllFormed rest

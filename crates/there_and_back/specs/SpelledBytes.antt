@@ -2,32 +2,27 @@
 use mathlib.Core.Path.{_≡_, refl, sym, subst}
 use mathlib.Core.Bool.{Bool, true, false, true≢false}
 use mathlib.Core.List.{List, [], _∷_, _++_}
-use Prim.Native.Nat.{ℕ, zero, suc, _+_, _*_, _/_, _%_, _≤_, _<_}
+use Prim.Native.Nat.{ℕ, suc, _+_, _*_, _/_, _%_, _≤_, _<_}
 use native.Mathlib.Omega.{arith}
 use borrow.Author.Tests.{leb-true, ltb-true}
 use lib.Dec.{eqb, leb, ltb}
-use lib.ListN.{length, getD, length-append}
+use lib.ListN.{length, length-append}
 use Rattle.instruction.proofs.LowLaws.{below}
 use Rattle.lex.specs.Token.{Bytes, Lexeme, op, num, push, Data, dataLength}
 use Rattle.tables.specs.Choose.{pick}
 use Rattle.tables.specs.Tables.{flat}
 use Rattle.spelling.specs.Spell.{opcodeByte, fusedByte, pushBytes, digits, numberBytes, instructionBytes, verifiedBytes, fuses, spelling, spell}
 use Rattle.spelling.specs.Lexemes.{Formed, AllFormed}
+use Rattle.spelling.proofs.NumberSpelling.{bytes-more}
+use Rattle.spelling.proofs.SpellingLexes.{instruction-some}
 use Rattle.standard.specs.Tree.{Leaf, True, False, PkK, RawPkH, After, Older, HashLock, Multi, MultiA, Key, Wrapper, alt, swap, check, dupIf, verify, nonZero, zeroNotEqual, Combination, andV, andB, orB, orD, orC, orI, Tree, Trees, leaf, wrap, join, andOr, thresh, nil, _⊳_, size, sizes}
 use Rattle.standard.specs.Written.{keysBefore, addedKeysBefore, leafBefore, opening, closing, first, between, last, treeBefore, addedTreesBefore, written}
 
 -- Bytes
 
-byte-first : (x : ℕ) (l : List ℕ) → x < 256 → Bytes l → Bytes (x ∷ l)
-byte-first x l h f = split
-  where
-    split : (i : ℕ) → getD (x ∷ l) i 0 < 256
-    split zero = h
-    split (suc i) = f i
-
 pub bytes-append : (a b : List ℕ) → Bytes a → Bytes b → Bytes (a ++ b)
 bytes-append [] b f g = g
-bytes-append (x ∷ a) b f g = byte-first x (a ++ b) (f 0) (bytes-append a b (λ j. f (suc j)) g)
+bytes-append (x ∷ a) b f g = bytes-more x (a ++ b) (f 0) (bytes-append a b (λ j. f (suc j)) g)
 
 no-bytes : Bytes []
 no-bytes i = omega arith
@@ -51,16 +46,16 @@ digits-are-bytes n h = by (ltb n 0x80) (ltb n 0x8000) (ltb n 0x800000) refl refl
   where
     by : (x y z : Bool) → ltb n 0x80 ≡ x → ltb n 0x8000 ≡ y → ltb n 0x800000 ≡ z
         → (let d = pick x (n ∷ []) (pick y (n % 256 ∷ n / 256 ∷ []) (pick z (n % 256 ∷ n / 256 % 256 ∷ n / 65536 ∷ []) (n % 256 ∷ n / 256 % 256 ∷ n / 65536 % 256 ∷ n / 16777216 ∷ []))) in Bytes d × (length d < 256))
-    by true y z e f g = let k = ltb-true n 0x80 e in (byte-first n [] (omega arith) no-bytes, omega arith)
+    by true y z e f g = let k = ltb-true n 0x80 e in (bytes-more n [] (omega arith) no-bytes, omega arith)
     by false true z e f g =
-        let k = ltb-true n 0x8000 f in (byte-first (n % 256) (n / 256 ∷ []) (omega arith) (byte-first (n / 256) [] (omega arith) no-bytes), omega arith)
+        let k = ltb-true n 0x8000 f in (bytes-more (n % 256) (n / 256 ∷ []) (omega arith) (bytes-more (n / 256) [] (omega arith) no-bytes), omega arith)
     by false false true e f g =
         let k = ltb-true n 0x800000 g in
-        (byte-first (n % 256) (n / 256 % 256 ∷ n / 65536 ∷ []) (omega arith) (byte-first (n / 256 % 256) (n / 65536 ∷ []) (omega arith) (byte-first (n / 65536) [] (omega arith) no-bytes)), omega arith)
+        (bytes-more (n % 256) (n / 256 % 256 ∷ n / 65536 ∷ []) (omega arith) (bytes-more (n / 256 % 256) (n / 65536 ∷ []) (omega arith) (bytes-more (n / 65536) [] (omega arith) no-bytes)), omega arith)
     by false false false e f g = (
-      byte-first (n % 256) (n / 256 % 256 ∷ n / 65536 % 256 ∷ n / 16777216 ∷ []) (omega arith)
-          (byte-first (n / 256 % 256) (n / 65536 % 256 ∷ n / 16777216 ∷ []) (omega arith)
-          (byte-first (n / 65536 % 256) (n / 16777216 ∷ []) (omega arith) (byte-first (n / 16777216) [] (omega arith) no-bytes))),
+      bytes-more (n % 256) (n / 256 % 256 ∷ n / 65536 % 256 ∷ n / 16777216 ∷ []) (omega arith)
+          (bytes-more (n / 256 % 256) (n / 65536 % 256 ∷ n / 16777216 ∷ []) (omega arith)
+          (bytes-more (n / 65536 % 256) (n / 16777216 ∷ []) (omega arith) (bytes-more (n / 16777216) [] (omega arith) no-bytes))),
       omega arith,
     )
 
@@ -69,9 +64,9 @@ unfolding numberBytes
 number-is-bytes n h = by (eqb n 0) (leb n 16) refl
   where
     by : (x y : Bool) → leb n 16 ≡ y → Bytes (pick x (0x00 ∷ []) (pick y ((0x50 + n) ∷ []) (pushBytes (digits n))))
-    by true y e = byte-first 0 [] (omega arith) no-bytes
-    by false true e = let k = leb-true n 16 e in byte-first (0x50 + n) [] (omega arith) no-bytes
-    by false false e = byte-first (length (digits n)) (digits n) (digits-are-bytes n h .1) (digits-are-bytes n h .0)
+    by true y e = bytes-more 0 [] (omega arith) no-bytes
+    by false true e = let k = leb-true n 16 e in bytes-more (0x50 + n) [] (omega arith) no-bytes
+    by false false e = bytes-more (length (digits n)) (digits n) (digits-are-bytes n h .1) (digits-are-bytes n h .0)
 
 data-length-low : (c : ℕ) → dataLength c < 256
 unfolding dataLength
@@ -84,12 +79,12 @@ data-length-low c = by (eqb c 29) (eqb c 30) (eqb c 31)
     by false false false = omega arith
 
 instruction-is-bytes : (l : Lexeme) → Formed l → Bytes (instructionBytes l)
-instruction-is-bytes (op c) f = byte-first (opcodeByte c) [] (opcode-is-byte c (f .1)) no-bytes
+instruction-is-bytes (op c) f = bytes-more (opcodeByte c) [] (opcode-is-byte c (f .1)) no-bytes
 instruction-is-bytes (num n) f = number-is-bytes n f
-instruction-is-bytes (push c d) f = byte-first (length (d .bytes)) (d .bytes) (subst (λ (k : ℕ). k < 256) (sym (f .2)) (data-length-low c)) (f .3)
+instruction-is-bytes (push c d) f = bytes-more (length (d .bytes)) (d .bytes) (subst (λ (k : ℕ). k < 256) (sym (f .2)) (data-length-low c)) (f .3)
 
 verified-is-bytes : (l : Lexeme) → Bytes (verifiedBytes l)
-verified-is-bytes (op c) = byte-first (fusedByte c) [] (fused-is-byte c) no-bytes
+verified-is-bytes (op c) = bytes-more (fusedByte c) [] (fused-is-byte c) no-bytes
 verified-is-bytes (num n) = no-bytes
 verified-is-bytes (push c d) = no-bytes
 
@@ -107,20 +102,6 @@ unfolding spell
 spell-is-bytes ls f = spelling-is-bytes ls f
 
 -- Lengths
-
-number-some : (n : ℕ) → 1 ≤ length (numberBytes n)
-unfolding numberBytes
-number-some n = by (eqb n 0) (leb n 16)
-  where
-    by : (x y : Bool) → 1 ≤ length (pick x (0x00 ∷ []) (pick y ((0x50 + n) ∷ []) (pushBytes (digits n))))
-    by true y = omega arith
-    by false true = omega arith
-    by false false = omega arith
-
-instruction-some : (l : Lexeme) → 1 ≤ length (instructionBytes l)
-instruction-some (op c) = omega arith
-instruction-some (num n) = number-some n
-instruction-some (push c d) = omega arith
 
 verified-some : (l m : Lexeme) → fuses l m ≡ true → 1 ≤ length (verifiedBytes l)
 verified-some (op c) m e = omega arith

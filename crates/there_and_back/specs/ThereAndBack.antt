@@ -15,7 +15,7 @@ use lib.ListN.{length}
 use Rattle.lex.specs.Token.{Bytes, Token, lexeme}
 use Rattle.lex.specs.Script as lex
 use Rattle.lex.specs.Script.{scriptLimit, lexOf}
-use Rattle.lex.proofs.Theorems.{ample-room-suffices}
+use Rattle.lex.proofs.Theorems.{ample-room-suffices, same-tokens}
 use Rattle.lex.proofs.Derivation.{derived}
 use Rattle.spelling.specs.Spell.{spell}
 use Rattle.spelling.specs.Lexemes.{AllFormed, lexemes, Spells}
@@ -23,11 +23,11 @@ use Rattle.spelling.proofs.SpellingLexes.{spelled-lexes}
 use Rattle.spelling.proofs.ScriptSpelling.{lexed-is-spelled, bytes-are-the-spelling}
 use Rattle.tables.specs.Choose.{pick}
 use Rattle.tables.specs.Tables.{flat}
+use Rattle.tables.proofs.BoolLaws.{left-true}
 use Rattle.standard.specs.Tree.{Tree, nil, _⊳_, SameTree}
 use Rattle.standard.specs.Written.{written}
 use Rattle.standard.specs.Allowed.{allowed}
 use Rattle.standard.specs.Types.{typeOf, WellTypedB}
-use Rattle.standard.specs.RuleLaws.{and-left}
 use Rattle.standard.specs.Table.{nodeTable, keyTable, cells}
 use Rattle.standard.specs.RowForm.{rowForm}
 use Rattle.standard.specs.PlaceLaws.{bares}
@@ -83,7 +83,7 @@ module _ (kind : ℕ) (nodes keys material : List ℕ) (work : ℕ) (output : Li
             known-kind = k;
             tree = t;
             holds = f;
-            allowed-values = and-left (allowed segwit t) true (g .0);
+            allowed-values = left-true (allowed segwit t) true (g .0);
             well-typed = h .well-typed;
             within-material = g .1 .0;
             short = leb-true (length (spell (written t))) scriptLimit x;
@@ -136,9 +136,6 @@ module _ (kind : ℕ) (nodes keys material : List ℕ) (work : ℕ) (output : Li
         let lexemes-same : bares (written (w .tree)) ≡ bares (map (lexeme script) (h .tokens)) = sym (l .2) ∙ ap (λ (ts : List Token). bares (map (lexeme script) ts)) (sym same) in
         let other : WrittenWithTokens segwit script (h .tokens) (w .tree) = (lexemes-same, (w .allowed-values, w .well-typed)) in
         (h, handed-out-type kind script lengths h (w .tree) other, ap bares (h .written-with) ∙ sym lexemes-same, handed-out-same-tree kind script lengths h (w .tree) other)
-      where
-        same-tokens : {ts us : List Token} → lex.tokens ts ≡ lex.tokens us → ts ≡ us
-        same-tokens e = cc
 
 -- Back: what the reader handed out, encoded
 

@@ -7,14 +7,14 @@ use Prim.Native.Nat.{ℕ, zero, suc, _+_, _-_, _*_, _%_, _≤_, _<_}
 use native.Mathlib.Omega.{arith}
 use lib.Dec.{leb, ltb}
 use lib.ListN.{length, getD, length-reverse}
-use borrow.Author.Tests.{leb-true, ltb-true}
+use borrow.Author.Tests.{ltb-true}
 use Rattle.tables.specs.Tables.{putAt}
 use Rattle.tables.proofs.BoolLaws.{left-true, right-true}
 use Rattle.tables.proofs.PutLaws.{put-length}
 use Rattle.standard.specs.Tree.{Hash, sha256, hash256, ripemd160, hash160, Wrapper, alt, swap, check, dupIf, verify, nonZero, zeroNotEqual, Combination, andV, andB, orB, orD, orC, orI, _⊳_}
-use Rattle.standard.specs.RuleLaws.{and-left, and-right}
 use Rattle.standard.specs.Table.{Node, Terminal, noTerminal, isTrue, isFalse, isPkK, isRawPkH, isAfter, isOlder, isHash, isWrapper, isCombination, isAndOr, isThresh, isMulti, isMultiA, terminalOf, nodeAt, addTerminal}
-use Rattle.encoding.specs.Form.{shape, shapeOf, unusedAreZero, allWithin, keysNamed, inRange, rightSize, formedAs, wellFormed}
+use Rattle.encoding.specs.Form.{shape, shapeOf, formedAs, wellFormed}
+use Rattle.encoding.specs.FormLaws.{keys-range}
 use Rattle.emit.specs.declared.Pen.{Pen}
 use Rattle.emit.specs.Emission.{pen, inkedAll, pennedAll}
 use Rattle.pieces.specs.Pieces.{Piece, entries, piecesIn, tagsOf, addTags, threshTags, tagsIn, SUBTREE}
@@ -170,22 +170,20 @@ module _ (segwit : Bool) (nodes keys material before all work out : List ℕ) (s
       pub thresh-kept : (now : List ℕ) → now ≡ putAt work (s .work - 1) (entries (node .number) (node .place) (threshTags (count - 1))) → (n : ℕ) → n ≡ s .work - 1 + 2 * (count - 1) + 3 → Kept now out (state n (s .left - 1) p₀)
       thresh-kept now f n k = entered-kept (threshTags (count - 1)) (thresh-small (count - 1)) (2 * (count - 1) + 3) (thresh-length (count - 1)) thresh-said now f n (omega (arith, k))
 
+  -- the keys that it names stand in the key table
+  keys-inside : (bytes : ℕ) → leb 1 bytes ≡ true → formedAs (length material) keys (some (shape true false 0 bytes 0)) node (o .ts) ≡ true → node .place + node .count ≤ length keys
+  keys-inside bytes some-bytes f = keys-range (length material) keys bytes node (o .ts) some-bytes f .0
+
   -- a multi
   module _ (e : node .kind ≡ 27) (place count : ℕ) (b : place ≡ node .place) (c : count ≡ node .count) where
-    multi-inside : node .place + node .count ≤ length keys
-    multi-inside =
-        leb-true (node .place + node .count) (length keys)
-        (and-left (leb (node .place + node .count) (length keys)) (allWithin 33 (length material) (keysNamed node keys))
-        (and-left (inRange (length material) keys (shape true false 0 33 0) node) (rightSize (shape true false 0 33 0) node (o .ts)) (and-right (unusedAreZero (shape true false 0 33 0) node) _ (formed isMulti (kind-multi e)))))
-
     multi-said : Leafs (multiScript keys material (node .number) count place) (o .ts) (o .t) (o .us)
     multi-said =
         subst (λ (k : ℕ). Leafs (multiScript keys material (node .number) k place) (o .ts) (o .t) (o .us)) (sym c)
         (subst (λ (k : ℕ). Leafs (multiScript keys material (node .number) (node .count) k) (o .ts) (o .t) (o .us)) (sym b)
-        (multi-says segwit material keys node multi-inside (o .ts) (o .us) (o .t) (makes isMulti (kind-multi e))))
+        (multi-says segwit material keys node (keys-inside 33 refl (formed isMulti (kind-multi e))) (o .ts) (o .us) (o .t) (makes isMulti (kind-multi e))))
 
     pub multi-ready : (count ≤ 4294967295) → (place + count ≤ length keys) × (count ≤ 4294967295) × (Ready (length out) p₀ (multiScript keys material (node .number) count place))
-    multi-ready h = (omega (arith, multi-inside), h, script-ready segwit nodes keys material g some-work o (multiScript keys material (node .number) count place) multi-said)
+    multi-ready h = (omega (arith, keys-inside 33 refl (formed isMulti (kind-multi e))), h, script-ready segwit nodes keys material g some-work o (multiScript keys material (node .number) count place) multi-said)
 
     pub multi-kept : (now : List ℕ) (p : Pen) → (now ≡ inkedAll out p₀ (multiScript keys material (node .number) count place)) × (p ≡ pennedAll p₀ (multiScript keys material (node .number) count place))
         → Kept work now (state (s .work - 1) (s .left - 1) p)
@@ -193,23 +191,17 @@ module _ (segwit : Bool) (nodes keys material before all work out : List ℕ) (s
 
   -- a multi_a
   module _ (e : node .kind ≡ 28) (place count : ℕ) (b : place ≡ node .place) (c : count ≡ node .count) where
-    multi-a-inside : node .place + node .count ≤ length keys
-    multi-a-inside =
-        leb-true (node .place + node .count) (length keys)
-        (and-left (leb (node .place + node .count) (length keys)) (allWithin 32 (length material) (keysNamed node keys))
-        (and-left (inRange (length material) keys (shape true false 0 32 0) node) (rightSize (shape true false 0 32 0) node (o .ts)) (and-right (unusedAreZero (shape true false 0 32 0) node) _ (formed isMultiA (kind-multi-a e)))))
-
     pub multi-a-some : 1 ≤ count
-    multi-a-some = omega (arith, multi-a-counts segwit material keys node multi-a-inside (o .ts) (o .us) (o .t) (makes isMultiA (kind-multi-a e)))
+    multi-a-some = omega (arith, multi-a-counts segwit material keys node (keys-inside 32 refl (formed isMultiA (kind-multi-a e))) (o .ts) (o .us) (o .t) (makes isMultiA (kind-multi-a e)))
 
     multi-a-said : Leafs (multiAScript keys material (node .number) (count - 1) place) (o .ts) (o .t) (o .us)
     multi-a-said =
         subst (λ (k : ℕ). Leafs (multiAScript keys material (node .number) (k - 1) place) (o .ts) (o .t) (o .us)) (sym c)
         (subst (λ (k : ℕ). Leafs (multiAScript keys material (node .number) (node .count - 1) k) (o .ts) (o .t) (o .us)) (sym b)
-        (multi-a-says segwit material keys node multi-a-inside (o .ts) (o .us) (o .t) (makes isMultiA (kind-multi-a e))))
+        (multi-a-says segwit material keys node (keys-inside 32 refl (formed isMultiA (kind-multi-a e))) (o .ts) (o .us) (o .t) (makes isMultiA (kind-multi-a e))))
 
     pub multi-a-ready : (place + 1 + (count - 1) ≤ length keys) × (Ready (length out) p₀ (multiAScript keys material (node .number) (count - 1) place))
-    multi-a-ready = (omega (arith, multi-a-inside, multi-a-some), script-ready segwit nodes keys material g some-work o (multiAScript keys material (node .number) (count - 1) place) multi-a-said)
+    multi-a-ready = (omega (arith, keys-inside 32 refl (formed isMultiA (kind-multi-a e)), multi-a-some), script-ready segwit nodes keys material g some-work o (multiAScript keys material (node .number) (count - 1) place) multi-a-said)
 
     pub multi-a-kept : (now : List ℕ) (p : Pen) → (now ≡ inkedAll out p₀ (multiAScript keys material (node .number) (count - 1) place)) × (p ≡ pennedAll p₀ (multiAScript keys material (node .number) (count - 1) place))
         → Kept work now (state (s .work - 1) (s .left - 1) p)

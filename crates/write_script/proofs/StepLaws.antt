@@ -12,10 +12,10 @@ use Rattle.tables.specs.Tables.{newest}
 use Rattle.tables.proofs.NewestLaws.{newest-length}
 use Rattle.lex.specs.Token.{Lexeme, op, num, push}
 use Rattle.standard.specs.Tree.{Tree, Trees, nil, _⊳_, _⊕_, many, size, sizes}
+use Rattle.standard.specs.TreeLaws.{many-sizes, many-append, sizes-append}
 use Rattle.standard.specs.Written.{treeBefore}
 use Rattle.standard.specs.Table.{Node, nodeAt}
 use Rattle.forest.specs.Forest.{children}
-use Rattle.forest.specs.PreorderLaws.{sizes-append}
 use Rattle.encoding.specs.Encoding.{nodeCount}
 use Rattle.encoding.proofs.Passed.{Passed, made-of, size-of-children}
 use Rattle.encoding.proofs.Stands.{Stands, empty, more, stands-length}
@@ -31,14 +31,6 @@ use Rattle.write_script.specs.Pass.{state, Going-on}
 use Rattle.write_script.proofs.TextLaws.{Says, Leafs}
 
 -- Trees and their sizes
-
-many-append : (us vs : Trees) → many (_⊕_ us vs) ≡ many us + many vs
-many-append nil vs = omega arith
-many-append (u ⊳ us) vs = omega (arith, many-append us vs)
-
-many-sizes : (us : Trees) → many us ≤ sizes us
-many-sizes nil = omega arith
-many-sizes (u ⊳ us) = omega (arith, many-sizes us, size-of-children u)
 
 -- Pieces
 

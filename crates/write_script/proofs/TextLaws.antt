@@ -15,6 +15,7 @@ use Rattle.lex.specs.Token.{ADD, EQUAL, CHECKMULTISIG, NUMEQUAL, CHECKSIG, CHEC
 use Rattle.standard.specs.Tree.{Key, Hash, sha256, hash256, ripemd160, hash160, Wrapper, alt, swap, check, dupIf, verify, nonZero, zeroNotEqual, Combination, andV, andB, orB, orD, orC, orI, Tree, Trees, thresh, nil, _⊳_, _⊕_, many}
 use Rattle.standard.specs.Written.{keyPush, treeBefore, addedTreesBefore, keysBefore, addedKeysBefore}
 use Rattle.standard.specs.Table.{Node, Terminal, noTerminal, isTrue, isFalse, isPkK, isRawPkH, isAfter, isOlder, isHash, isWrapper, isCombination, isAndOr, isThresh, isMulti, isMultiA, terminals, terminalOf, takeTrees, keysAt, datasAt, multiAOf, threshTop, addTerminal}
+use Rattle.standard.specs.TableLaws.{keys-at-length}
 use Rattle.forest.specs.Forest.{children}
 use Rattle.pieces.specs.Pieces.{Piece, subtree, writes, SUBTREE, constant, tagsOf, addTags, threshTags}
 use Rattle.pieces.proofs.EntryLaws.{pieceWith}
@@ -206,10 +207,6 @@ added-append : (ds : List Data) (ys : List Lexeme) → addedKeysBefore ds [] ++ 
 added-append [] ys = refl
 added-append (d ∷ ds) ys = ap (λ (l : List Lexeme). push BYTES32 d ∷ op CHECKSIGADD ∷ l) (added-append ds ys)
 
-keys-length : (material ps : List ℕ) → length (keysAt material ps) ≡ length ps
-keys-length material [] = refl
-keys-length material (p ∷ ps) = ap suc (keys-length material ps)
-
 keys-append : (ks : List Key) (ys : List Lexeme) → keysBefore ks [] ++ ys ≡ keysBefore ks ys
 keys-append [] ys = refl
 keys-append (k ∷ ks) ys = ap (λ (l : List Lexeme). keyPush k ∷ l) (keys-append ks ys)
@@ -235,7 +232,7 @@ module _ (segwit : Bool) (material keys : List ℕ) (n : Node) (inside : n .plac
   -- THEOREM: a multi
   pub multi-says : (ts us : Trees) (t : Tree) → addTerminal segwit material keys isMulti n ts ≡ some (t ⊳ us) → Leafs (multiScript keys material (n .number) (n .count) (n .place)) ts t us
   multi-says ts us t e =
-      let c : length (keysAt material named) ≡ n .count = keys-length material named ∙ named-length in
+      let c : length (keysAt material named) ≡ n .count = keys-at-length material named ∙ named-length in
       subst (LeafsOf (multiScript keys material (n .number) (n .count) (n .place)) ts) e
       (record {
         same-script =

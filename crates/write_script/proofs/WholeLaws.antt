@@ -11,11 +11,12 @@ use lib.ListN.{length, take, drop, length-drop}
 use lib.Seq.{length-take-le}
 use borrow.Author.Tests.{leb-true}
 use Rattle.lex.specs.Token.{Lexeme, op, num, dataAt, dataLength}
+use Rattle.tables.proofs.BoolLaws.{left-true, right-true}
 use Rattle.standard.specs.Tree.{key, Hash, sha256, hash256, ripemd160, hash160, PkK, RawPkH, HashLock, Wrapper, alt, swap, check, dupIf, verify, nonZero, zeroNotEqual, Combination, andV, andB, orB, orD, orC, orI, Tree, Trees, leaf, wrap, join, andOr, thresh, nil, _⊳_}
-use Rattle.standard.specs.RuleLaws.{and-left, and-right}
 use Rattle.standard.specs.Written.{treeBefore, addedTreesBefore, keysBefore, addedKeysBefore}
 use Rattle.standard.specs.Table.{Node, Terminal, noTerminal, isTrue, isFalse, isPkK, isRawPkH, isAfter, isOlder, isHash, isWrapper, isCombination, isAndOr, isThresh, isMulti, isMultiA, terminalOf, hashLength, keyCode, keyLength, takeTrees, keysAt, datasAt, multiAOf, wrapTop, joinTop, andOrTop, threshTop, addTerminal}
-use Rattle.encoding.specs.Form.{Shape, shape, shapeOf, unusedAreZero, allWithin, keysNamed, inRange, rightSize, formedAs, wellFormed}
+use Rattle.encoding.specs.Form.{shape, shapeOf, allWithin, keysNamed, formedAs, wellFormed}
+use Rattle.encoding.specs.FormLaws.{in-range}
 use Rattle.encoding.proofs.Passed.{Passed}
 use Rattle.encoding.proofs.Stands.{Stands, empty, more}
 use Rattle.emit_multi.specs.Multis.{AllWhole}
@@ -79,21 +80,21 @@ module _ (material : List ℕ) where
   unfolding dataLength
   keys-whole [] h rest r = r
   keys-whole (p ∷ ps) h rest r =
-      (in-material p 33 (and-left (leb (p + 33) (length material)) _ h), keys-whole ps (and-right (leb (p + 33) (length material)) _ h) rest r)
+      (in-material p 33 (left-true (leb (p + 33) (length material)) _ h), keys-whole ps (right-true (leb (p + 33) (length material)) _ h) rest r)
 
   datas-whole : (ps : List ℕ) → allWithin 32 (length material) ps ≡ true → (rest : List Lexeme) → AllWhole rest → AllWhole (addedKeysBefore (datasAt material ps) rest)
   unfolding dataLength
   datas-whole [] h rest r = r
   datas-whole (p ∷ ps) h rest r =
-      (in-material p 32 (and-left (leb (p + 32) (length material)) _ h), (omega arith, datas-whole ps (and-right (leb (p + 32) (length material)) _ h) rest r))
+      (in-material p 32 (left-true (leb (p + 32) (length material)) _ h), (omega arith, datas-whole ps (right-true (leb (p + 32) (length material)) _ h) rest r))
 
   multi-a-whole : (k : ℕ) (ps : List ℕ) (ts : Trees) → allWithin 32 (length material) ps ≡ true → WholeTrees ts → WholeMade (multiAOf k (datasAt material ps) ts)
   unfolding dataLength
   multi-a-whole k [] ts h w = tt
   multi-a-whole k (p ∷ ps) ts h w = (
     (λ rest r. (
-      in-material p 32 (and-left (leb (p + 32) (length material)) _ h),
-      (omega arith, datas-whole ps (and-right (leb (p + 32) (length material)) _ h) (num k ∷ op 5 ∷ rest) (tt, (omega arith, r))),
+      in-material p 32 (left-true (leb (p + 32) (length material)) _ h),
+      (omega arith, datas-whole ps (right-true (leb (p + 32) (length material)) _ h) (num k ∷ op 5 ∷ rest) (tt, (omega arith, r))),
     )),
     w,
   )
@@ -115,9 +116,6 @@ module _ (material : List ℕ) where
   raw-whole place e rest r = (omega arith, (omega arith, (in-material place 20 e, (omega arith, (omega arith, r)))))
 
 -- A node
-
-in-range : (material : ℕ) (keys : List ℕ) (s : Shape) (n : Node) (ts : Trees) → formedAs material keys (some s) n ts ≡ true → inRange material keys s n ≡ true
-in-range material keys s n ts h = and-left (inRange material keys s n) (rightSize s n ts) (and-right (unusedAreZero s n) _ h)
 
 wrapped-whole : (w : Wrapper) (ts : Trees) → WholeTrees ts → WholeMade (wrapTop w ts)
 wrapped-whole w nil h = tt
@@ -157,12 +155,12 @@ module _ (segwit : Bool) (material keys : List ℕ) where
   made-whole isMulti n ts f w = (
     (λ rest r. (
       tt,
-      keys-whole material (keysNamed n keys) (and-right (leb (n .place + n .count) (length keys)) _ (in-range (length material) keys (shape true false 0 33 0) n ts f)) _ (tt, (omega arith, r)),
+      keys-whole material (keysNamed n keys) (right-true (leb (n .place + n .count) (length keys)) _ (in-range (length material) keys (shape true false 0 33 0) n ts f)) _ (tt, (omega arith, r)),
     )),
     w,
   )
   made-whole isMultiA n ts f w =
-      multi-a-whole material (n .number) (keysNamed n keys) ts (and-right (leb (n .place + n .count) (length keys)) _ (in-range (length material) keys (shape true false 0 32 0) n ts f)) w
+      multi-a-whole material (n .number) (keysNamed n keys) ts (right-true (leb (n .place + n .count) (length keys)) _ (in-range (length material) keys (shape true false 0 32 0) n ts f)) w
 
   passed-whole : (n : Node) (ts us : Trees) (t : Tree) → Passed segwit material keys n ts t us → WholeTrees ts → WholeTrees (t ⊳ us)
   unfolding wellFormed

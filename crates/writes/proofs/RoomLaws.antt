@@ -9,6 +9,7 @@ use lib.ListN.{length}
 use borrow.Author.Tests.{le-leb, lt-leb, leb-true, leb-false}
 use Rattle.tables.specs.Choose.{pick}
 use Rattle.tables.specs.Tables.{putAt}
+use Rattle.base_input.proofs.Chosen.{skips}
 use Rattle.standard.specs.Table.{Node, cells}
 use Rattle.row.specs.declared.NonTerm.the-variants.{Verify}
 use Rattle.work_list.specs.Work.{packed}
@@ -25,9 +26,6 @@ use Rattle.writes.specs.Written.{counts, stopped, typeRefusal, nodeRefus
 met : {A : Type 0} {b : Bool} {x : A} (y z : A) → b ≡ true → x ≡ y → x ≡ pick b y z
 met y z h e = e ∙ ap (λ (c : Bool). pick c y z) (sym h)
 
-unmet : {A : Type 0} {b : Bool} {x : A} (y z : A) → b ≡ false → x ≡ z → x ≡ pick b y z
-unmet y z h e = e ∙ ap (λ (c : Bool). pick c y z) (sym h)
-
 -- the code compares what is asked for with what is free
 pub free : (w more room : ℕ) → w ≤ room → leb more (room - w) ≡ leb (w + more) room
 free w more room h = by-test (leb (w + more) room) refl
@@ -38,7 +36,7 @@ free w more room h = by-test (leb (w + more) room) refl
 
 module _ {work work′ : List ℕ} {s : State} {numbers : List ℕ} {r : Step} where
   pub enters-none : leb (s .work + length numbers) (length work) ≡ false → work′ ≡ work → r ≡ stopped s 17 0 → Enters work work′ s numbers r
-  enters-none h t e = record { answers = unmet _ _ h e; table = unmet _ _ h t }
+  enters-none h t e = record { answers = skips _ _ h e; table = skips _ _ h t }
 
   pub enters-all : leb (s .work + length numbers) (length work) ≡ true → work′ ≡ putAt work (s .work) numbers → r ≡ step.Goes (counts (s .left) (s .work + length numbers) (s .nodes) (s .keys)) → Enters work work′ s numbers r
   enters-all h t e = record { answers = met _ _ h e; table = met _ _ h t }
@@ -49,19 +47,19 @@ pub earlier-is : {a b a′ b′ r : ℕ} → r ≡ earlierOf a b → a ≡ a′ 
 earlier-is {a} {b} {a′} e f g = e ∙ ap (λ (i : ℕ). earlierOf i b) f ∙ ap (earlierOf a′) g
 
 pub no-node : (cells m : ℕ) → cells / 9 ≤ m → 15 ≡ nodeRefusal cells m
-no-node cells m h = unmet _ _ (lt-leb (m + 1) (cells / 9) (omega arith)) refl
+no-node cells m h = skips _ _ (lt-leb (m + 1) (cells / 9) (omega arith)) refl
 
 pub some-node : (cells m : ℕ) → m < cells / 9 → 0 ≡ nodeRefusal cells m
 some-node cells m h = met _ _ (le-leb (m + 1) (cells / 9) (omega arith)) refl
 
 pub no-keys : (room have n : ℕ) → have ≤ room → room - have < n → 16 ≡ keysRefusal room have n
-no-keys room have n i h = unmet _ _ (lt-leb (have + n) room (omega arith)) refl
+no-keys room have n i h = skips _ _ (lt-leb (have + n) room (omega arith)) refl
 
 pub some-keys : (room have n : ℕ) → have ≤ room → n ≤ room - have → 0 ≡ keysRefusal room have n
 some-keys room have n i h = met _ _ (le-leb (have + n) room (omega arith)) refl
 
 pub no-entry : (room w : ℕ) → room ≤ w → 17 ≡ workRefusal room w
-no-entry room w h = unmet _ _ (lt-leb (w + 1) room (omega arith)) refl
+no-entry room w h = skips _ _ (lt-leb (w + 1) room (omega arith)) refl
 
 pub some-entry : (room w : ℕ) → w < room → 0 ≡ workRefusal room w
 some-entry room w h = met _ _ (le-leb (w + 1) room (omega arith)) refl
@@ -72,7 +70,7 @@ module _ (nodes : List ℕ) (s : State) (number : ℕ) (is : number ≡ nodeRefu
     where
       by-test : (b : Bool) → leb (s .nodes + 1) (length nodes / 9) ≡ b → number ≡ pick b 0 15 → Stores nodes nodes′ s x r
       by-test true f n = absurd (some n)
-      by-test false f n = record { answers = unmet _ _ f (e ∙ ap (λ (i : ℕ). stopped s i 0) n); table = unmet _ _ f t }
+      by-test false f n = record { answers = skips _ _ f (e ∙ ap (λ (i : ℕ). stopped s i 0) n); table = skips _ _ f t }
 
   pub one-fits : number ≡ 0 → s .nodes < length nodes / 9
   one-fits z = by-test (leb (s .nodes + 1) (length nodes / 9)) refl is
@@ -94,8 +92,8 @@ module _ (nodes work : List ℕ) (s : State) (number : ℕ) (is : number ≡ ear
       by-tests : (b c : Bool) → leb (s .nodes + 1) (length nodes / 9) ≡ b → leb (s .work + 1) (length work) ≡ c → number ≡ earlierOf (pick b 0 15) (pick c 0 17) → Verified nodes nodes′ work work′ s x numbers r
       by-tests true true f g n = absurd (some n)
       by-tests true false f g n =
-          record { answers = met _ _ f (unmet _ _ g (e ∙ ap (λ (i : ℕ). stopped s i 0) n)); nodes-are = met _ _ f (unmet _ _ g ns); work-is = met _ _ f (unmet _ _ g w) }
-      by-tests false c f g n = record { answers = unmet _ _ f (e ∙ ap (λ (i : ℕ). stopped s i 0) n); nodes-are = unmet _ _ f ns; work-is = unmet _ _ f w }
+          record { answers = met _ _ f (skips _ _ g (e ∙ ap (λ (i : ℕ). stopped s i 0) n)); nodes-are = met _ _ f (skips _ _ g ns); work-is = met _ _ f (skips _ _ g w) }
+      by-tests false c f g n = record { answers = skips _ _ f (e ∙ ap (λ (i : ℕ). stopped s i 0) n); nodes-are = skips _ _ f ns; work-is = skips _ _ f w }
 
   pub verified-fits : number ≡ 0 → (s .nodes < length nodes / 9) × (s .work + 1 ≤ length work)
   verified-fits z = by-tests (leb (s .nodes + 1) (length nodes / 9)) (leb (s .work + 1) (length work)) refl refl is
@@ -123,8 +121,8 @@ module _ (nodes keys : List ℕ) (s : State) (offsets : List ℕ) (n : ℕ) (cou
       by-tests : (b c : Bool) → leb (s .keys + length offsets) (length keys) ≡ b → leb (s .nodes + 1) (length nodes / 9) ≡ c → number ≡ earlierOf (pick b 0 16) (pick c 0 15) → Keyed nodes nodes′ keys keys′ s x offsets r
       by-tests true true f g i = absurd (some i)
       by-tests true false f g i =
-          record { answers = met _ _ f (unmet _ _ g (e ∙ ap (λ (k : ℕ). stopped s k 0) i)); nodes-are = met _ _ f (unmet _ _ g ns); keys-are = met _ _ f (unmet _ _ g ks) }
-      by-tests false c f g i = record { answers = unmet _ _ f (e ∙ ap (λ (k : ℕ). stopped s k 0) i); nodes-are = unmet _ _ f ns; keys-are = unmet _ _ f ks }
+          record { answers = met _ _ f (skips _ _ g (e ∙ ap (λ (k : ℕ). stopped s k 0) i)); nodes-are = met _ _ f (skips _ _ g ns); keys-are = met _ _ f (skips _ _ g ks) }
+      by-tests false c f g i = record { answers = skips _ _ f (e ∙ ap (λ (k : ℕ). stopped s k 0) i); nodes-are = skips _ _ f ns; keys-are = skips _ _ f ks }
 
   pub keyed-fits : number ≡ 0 → (s .keys + n ≤ length keys) × (s .nodes < length nodes / 9)
   keyed-fits z = by-tests (leb (s .keys + n) (length keys)) (leb (s .nodes + 1) (length nodes / 9)) refl refl is

@@ -1,5 +1,6 @@
 -- `closing::thresh_type` meets its contract. The loop over a thresh's children, of WayLaws. Assumes nothing.
-use Rattle.closing.proofs.WayLaws.{Threshing, threshing, child-there, child-refused, threshing-again, thresh-typed}
+use Rattle.closing.proofs.WayLaws.{Threshing, threshing, child-refused, threshing-again, thresh-typed}
+use Rattle.judge.specs.NodeTableLaws.{next-there}
 use borrow.Author.Needs.{needs}
 use native.Mathlib.Omega.{arith}
 use Prim.Native.Nat.{_-_}
@@ -20,10 +21,10 @@ loop-holds : tie.Need-loop-holds Inv-loop μ-loop
 loop-holds c = threshing (now (c .before .before .args .nodes)) (c .before .before .args .m) (c .before .before .args .n) (c .before .before .pre .1) (c .no-children .ensures)
 
 sub-child : tie.Need-sub-child Inv-loop μ-loop
-sub-child c = omega (arith, child-there (now (c .before .before .before .before .args .nodes)) (c .before .before .before .before .args .m) (c .before .before .before .before .args .n) (c .before .loop .inv) (c .loop-test .taken) .0)
+sub-child c = omega (arith, next-there (now (c .before .before .before .before .args .nodes)) (c .before .before .before .before .args .n) (c .loop-test .taken) (c .before .loop .inv .waiting) .0)
 
 type-at-requires : tie.Need-type-at-requires Inv-loop μ-loop
-type-at-requires c κs = omega (arith, child-there (now (c .before .before .before .before .args .nodes)) (c .before .before .before .before .args .m) (c .before .before .before .before .args .n) (c .before .loop .inv) (c .loop-test .taken) .0, c .before .loop .inv .inside, c .before .before .before .before .pre .0)
+type-at-requires c κs = omega (arith, next-there (now (c .before .before .before .before .args .nodes)) (c .before .before .before .before .args .n) (c .loop-test .taken) (c .before .loop .inv .waiting) .0, c .before .loop .inv .inside, c .before .before .before .before .pre .0)
 
 threshold-child-requires : tie.Need-threshold-child-requires Inv-loop μ-loop
 threshold-child-requires c κs = search needs
@@ -38,13 +39,13 @@ returns : tie.Need-returns Inv-loop μ-loop
 returns c = child-refused (now (c .before .before .before .before .before .before .before .before .args .nodes)) (c .before .before .before .before .before .before .before .before .args .m) (c .before .before .before .before .before .before .before .before .args .n) (c .before .before .before .before .before .loop .inv) (c .before .before .before .before .loop-test .taken) (c .before .before .before .type-at .ensures) (c .before .before .threshold-child .ensures) (c .enum-told .given .1)
 
 size-at-requires : tie.Need-size-at-requires Inv-loop μ-loop
-size-at-requires c κs = omega (arith, child-there (now (c .before .before .before .before .before .before .before .before .before .args .nodes)) (c .before .before .before .before .before .before .before .before .before .args .m) (c .before .before .before .before .before .before .before .before .before .args .n) (c .before .before .before .before .before .before .loop .inv) (c .before .before .before .before .before .loop-test .taken) .0, c .before .before .before .before .before .before .loop .inv .inside, c .before .before .before .before .before .before .before .before .before .pre .0)
+size-at-requires c κs = omega (arith, next-there (now (c .before .before .before .before .before .before .before .before .before .args .nodes)) (c .before .before .before .before .before .before .before .before .before .args .n) (c .before .before .before .before .before .loop-test .taken) (c .before .before .before .before .before .before .loop .inv .waiting) .0, c .before .before .before .before .before .before .loop .inv .inside, c .before .before .before .before .before .before .before .before .before .pre .0)
 
 cast-at : tie.Need-cast-at Inv-loop μ-loop
 cast-at c = search needs
 
 sub-at : tie.Need-sub-at Inv-loop μ-loop
-sub-at c = omega (arith, child-there (now (c .before .before .before .before .before .before .before .before .before .before .args .nodes)) (c .before .before .before .before .before .before .before .before .before .before .args .m) (c .before .before .before .before .before .before .before .before .before .before .args .n) (c .before .before .before .before .before .before .before .loop .inv) (c .before .before .before .before .before .before .loop-test .taken) .2, c .size-at .ensures)
+sub-at c = omega (arith, next-there (now (c .before .before .before .before .before .before .before .before .before .before .args .nodes)) (c .before .before .before .before .before .before .before .before .before .before .args .n) (c .before .before .before .before .before .before .loop-test .taken) (c .before .before .before .before .before .before .before .loop .inv .waiting) .2, c .size-at .ensures)
 
 add-i : tie.Need-add-i Inv-loop μ-loop
 add-i c = search needs

@@ -1,7 +1,7 @@
 -- `run::run` meets its contract. Assumes nothing.
-use Rattle.run.proofs.EndLaws.{some-node, nodes-in, closed, full-at-start, same-room, same-rooms}
+use Rattle.run.proofs.EndLaws.{some-node, closed, full-at-start, same-room, same-rooms}
 use Rattle.run.proofs.SteppingLaws.{stepping, few-steps}
-use Rattle.run.proofs.RunLaws.{Running, begun, turned, lighter, refuses}
+use Rattle.run.proofs.RunLaws.{Running, begun, turned, lighter, refuses, nodes-inside}
 use Rattle.perform.specs.View.{roomOf}
 use Rattle.run.specs.declared.Ran.{Ran}
 use Rattle.work_list.proofs.WorkLaws.{entered-two}
@@ -73,7 +73,7 @@ returns-2 : tie.Need-returns-2 Inv-loop μ-loop
 returns-2 c = same-room (c .before .before .before .before .before .before .before .before .before .before .before .before .before .before .before .before .before .before .before .before .before .before .before .before .before .before .before .args .segwit) (now (c .before .before .before .before .before .before .before .before .before .before .before .before .before .before .before .before .before .before .before .before .before .before .before .before .before .before .before .args .nodes)) (now (c .before .before .before .before .before .before .before .before .before .before .before .before .before .before .before .before .before .before .before .before .before .before .before .before .before .before .before .args .keys)) (c .before .before .before .before .before .before .before .before .before .before .before .before .before .before .before .before .before .before .before .enter2 .last .0) (now (c .before .before .before .before .before .before .before .before .before .before .before .before .before .before .before .before .before .before .before .before .before .before .before .before .before .before .before .args .work)) (reverseAux (lexemesLeft (now (c .before .before .before .before .before .before .before .before .before .before .before .before .before .before .before .before .before .before .before .before .before .before .before .before .before .before .before .args .script)) (now (c .before .before .before .before .before .before .before .before .before .before .before .before .before .before .before .before .before .before .before .before .before .before .before .before .before .before .before .args .tokens)) (c .before .before .before .before .before .before .before .before .before .before .before .before .before .before .before .before .before .before .before .before .before .before .before .before .before .before .before .args .count)) []) (c .before .before .before .before .before .before .before .before .before .before .step .last .1 .1 .1 .0) (c .before .before .before .before .before .before .before .before .before .before .step .last .1 .1 .1 .1 .0) (c .ended2 .result) (c .before .before .before .before .before .before .before .before .before .before .before .before .before .before .before .before .before .before .before .enter2 .kept .0) (refuses (c .before .before .before .before .before .before .before .before .before .before .before .before .before .before .before .before .before .before .before .before .before .before .before .before .before .before .before .args .segwit) (now (c .before .before .before .before .before .before .before .before .before .before .before .before .before .before .before .before .before .before .before .before .before .before .before .before .before .before .before .args .script)) (now (c .before .before .before .before .before .before .before .before .before .before .before .before .before .before .before .before .before .before .before .before .before .before .before .before .before .before .before .args .tokens)) (c .before .before .before .before .before .before .before .before .before .before .before .before .before .before .before .before .before .before .before .before .before .before .before .before .before .before .before .args .count) (roomOf (now (c .before .before .before .before .before .before .before .before .before .before .before .before .before .before .before .before .before .before .before .before .before .before .before .before .before .before .before .args .nodes)) (now (c .before .before .before .before .before .before .before .before .before .before .before .before .before .before .before .before .before .before .before .before .before .before .before .before .before .before .before .args .keys)) (c .before .before .before .before .before .before .before .before .before .before .before .before .before .before .before .before .before .before .before .enter2 .last .0)) (c .before .before .before .before .before .before .before .before .before .before .before .before .before .before .before .before .loop .inv .0) (c .before .before .before .before .before .before .before .before .before .before .before .before .before .before .if2 .taken) _ _ _ (c .before .before .got2 .given .1) (c .before .before .before .before .before .before .before .before .before .before .step .ensures) (c .ended2 .ensures) (ap (λ (x : Ran). x .steps) (c .ended2 .ensures)))
 
 close-requires : tie.Need-close-requires Inv-loop μ-loop
-close-requires c κs = (some-node (c .before .before .before .before .before .before .before .before .before .before .before .before .before .before .args .segwit) (now (c .before .before .before .before .before .before .before .before .before .before .before .before .before .before .args .script)) (now (c .before .before .before .before .before .before .before .before .before .before .before .before .before .before .args .tokens)) (c .before .before .before .before .before .before .before .before .before .before .before .before .before .before .args .count) (roomOf (now (c .before .before .before .before .before .before .before .before .before .before .before .before .before .before .args .nodes)) (now (c .before .before .before .before .before .before .before .before .before .before .before .before .before .before .args .keys)) (c .before .before .before .before .before .before .enter2 .last .0)) (c .before .before .before .loop .inv .0) (omega arith), nodes-in (c .before .before .before .before .before .before .before .before .before .before .before .before .before .before .args .segwit) (now (c .before .before .before .before .before .before .before .before .before .before .before .before .before .before .args .script)) (now (c .before .before .before .before .before .before .before .before .before .before .before .before .before .before .args .tokens)) (c .before .before .before .before .before .before .before .before .before .before .before .before .before .before .args .count) (roomOf (now (c .before .before .before .before .before .before .before .before .before .before .before .before .before .before .args .nodes)) (now (c .before .before .before .before .before .before .before .before .before .before .before .before .before .before .args .keys)) (c .before .before .before .before .before .before .enter2 .last .0)) (c .before .before .before .loop .inv .0) (omega arith))
+close-requires c κs = (some-node (c .before .before .before .before .before .before .before .before .before .before .before .before .before .before .args .segwit) (now (c .before .before .before .before .before .before .before .before .before .before .before .before .before .before .args .script)) (now (c .before .before .before .before .before .before .before .before .before .before .before .before .before .before .args .tokens)) (c .before .before .before .before .before .before .before .before .before .before .before .before .before .before .args .count) (roomOf (now (c .before .before .before .before .before .before .before .before .before .before .before .before .before .before .args .nodes)) (now (c .before .before .before .before .before .before .before .before .before .before .before .before .before .before .args .keys)) (c .before .before .before .before .before .before .enter2 .last .0)) (c .before .before .before .loop .inv .0) (omega arith), nodes-inside (c .before .before .before .before .before .before .before .before .before .before .before .before .before .before .args .segwit) (now (c .before .before .before .before .before .before .before .before .before .before .before .before .before .before .args .script)) (now (c .before .before .before .before .before .before .before .before .before .before .before .before .before .before .args .tokens)) (c .before .before .before .before .before .before .before .before .before .before .before .before .before .before .args .count) (roomOf (now (c .before .before .before .before .before .before .before .before .before .before .before .before .before .before .args .nodes)) (now (c .before .before .before .before .before .before .before .before .before .before .before .before .before .before .args .keys)) (c .before .before .before .before .before .before .enter2 .last .0)) (c .before .before .before .loop .inv .0))
 
 same-length-4 : tie.Need-same-length-4 Inv-loop μ-loop
 same-length-4 c = c .before .before .before .before .loop .inv .1 .0
