@@ -23,12 +23,29 @@ pub fn zero_record() -> Node
     }
 }
 
+// What a place of the table holds once a record is stored in it, field by field: each field its own.
+fn entry(n: Node) -> Node
+    ensures { λ r. ⌜ r ≡ n ⌝ }
+{
+    Node {
+        kind: n.kind,
+        number: n.number,
+        count: n.count,
+        place: n.place,
+        size: n.size,
+        base: n.base,
+        input: n.input,
+        d: n.d,
+        u: n.u,
+    }
+}
+
 // A record is stored.
 pub fn put(records: &mut [Node], i: usize, n: Node)
     requires { ⌜ i < length (now records) ⌝ }
     ensures { λ _. ⌜ now (records .exit) ≡ set (now (records .entry)) i n ⌝ }
 {
-    records[i] = n;
+    records[i] = entry(n);
 }
 
 // A record is read.
