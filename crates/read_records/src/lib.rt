@@ -48,7 +48,7 @@ fn read_within(
 }
 
 // How many nodes an answer has: none after a refusal.
-fn nodes_of(r: Answer) -> usize
+pub fn nodes_of(r: Answer) -> usize
     ensures { λ n. ⌜ n ≡ r .nodes ⌝ }
 {
     r.nodes

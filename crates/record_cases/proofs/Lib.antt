@@ -1,3 +1,2 @@
--- A law of the tokens, and steps of the walk.
+-- A law of the tokens.
 pub mod TakenBack
-pub mod LentArray

@@ -1,0 +1,2 @@
+-- A script that is read into records and written again from them.
+pub mod WrittenAgain
