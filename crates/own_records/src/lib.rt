@@ -43,7 +43,15 @@ pub fn written_again(
     ensures { λ r. ⌜ writtenAgainAt r (now (tokens .exit)) (now (nodes .exit)) (now (keys .exit)) (now (work .exit)) (now (out .exit)) ≡ writtenAgain kind (now (script .entry)) (lengthsOf (now (tokens .entry)) (now (nodes .entry)) (now (keys .entry)) (now (work .entry))) 8 (now (out .entry)) ⌝ }
 {
     let mut records = [node_records::zero_record(); 8];
-    let a = read_records::read_records(kind, script, tokens, &mut *nodes, &mut records, &mut *keys, &mut *work);
+    let a = read_records::read_records(
+        kind,
+        script,
+        tokens,
+        &mut *nodes,
+        &mut records,
+        &mut *keys,
+        &mut *work,
+    );
     let n = read_records::nodes_of(a);
     encode_records::encode_records(kind, &records[..n], nodes, &*keys, script, work, out)
 }

@@ -3,13 +3,10 @@
 // All tables are ample and full of junk before. For each script it writes: the script; the seven numbers of the answer; if
 // it is accepted, each token as it is looked at, taken and put back: its code, number and place and how many are left after
 // it; and the eight records, nine numbers each.
-// The stored output was made from that of `reader_cases`, which a reading of document 01 in Python wrote.
+// The stored output is that of tests/record_cases.py, a reading of document 01 in Python.
 ghost use mathlib.Core.Path.{_≡_};
 ghost use Prim.Native.Nat.{_+_, _-_, _*_, _≤_, _<_};
-ghost use lib.ListN.{length, getD};
-ghost use Rattle.decode.specs.Read.{lengthsOf};
-ghost use Rattle.node_records.specs.Records.{zeroRecord};
-ghost use Rattle.read_records.specs.RecordOutcome.{recordOutcomeOf};
+ghost use lib.ListN.{length};
 use cursor::NextToken;
 use decode::Answer;
 use judge::Node;
@@ -140,24 +137,6 @@ fn show_record(n: Node) {
     line();
 }
 
-// Record i of the eight that a reading fills.
-fn record_read(
-    kind: u32,
-    script: &[u8],
-    tokens: &mut [u32],
-    nodes: &mut [u32],
-    keys: &mut [u32],
-    work: &mut [u64],
-    i: usize,
-) -> Node
-    requires { ⌜ i < 8 ⌝ }
-    ensures { λ r. ⌜ r ≡ getD (recordOutcomeOf kind (now (script .entry)) (lengthsOf (now (tokens .entry)) (now (nodes .entry)) (now (keys .entry)) (now (work .entry))) 8 .records) i zeroRecord ⌝ }
-{
-    let mut records = [node_records::zero_record(); 8];
-    read_records::read_records(kind, script, tokens, nodes, &mut records, keys, work);
-    records[i]
-}
-
 // A reading into tables full of junk, and one of its records.
 fn read_into_junk(kind: u32, script: &[u8], i: usize)
     requires { ⌜ i < 8 ⌝ }
@@ -166,7 +145,7 @@ fn read_into_junk(kind: u32, script: &[u8], i: usize)
     let mut nodes = [0xdeadbeefu32; 74];
     let mut keys = [0xdeadbeefu32; 3];
     let mut work = [0xdeadbeefdeadbeefu64; 12];
-    let n = record_read(
+    let n = own_records::record_read(
         kind,
         script,
         &mut tokens,
@@ -229,7 +208,15 @@ fn proved_together() {
     run(0, b"7663516968");
 }
 
-// Those behind it, but for the long one.
+// The script of 10,001 bytes, in the same tables: its length alone refuses it.
+fn run_long() {
+    io::write_all(1, b"00 10001 times 51\n");
+    let script = [0x51u8; 10001];
+    show_reading(0, &script);
+    show_records(0, &script);
+}
+
+// Those behind it.
 fn run_only() {
     run(0, b"51b2");
     run(0, b"0105");
@@ -240,6 +227,7 @@ fn run_only() {
     run(0, b"4c");
     run(0, b"4f");
     run(0, b"88");
+    run_long();
 }
 
 fn main() {
