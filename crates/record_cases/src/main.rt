@@ -1,14 +1,17 @@
 // Reads document 01's scripts to try at the counter through the two records that are lent: the nodes into a slice of node
-// records (crate `read_records`), and the tokens back from the last to the first through the token cursor (crate `cursor`).
+// records (crate `read_records`), and the tokens back from the last to the first through the token cursor (crate `cursor`);
+// and writes each script again from the records of its nodes (crate `encode_records`). Three scripts with keys follow them.
 // All tables are ample and full of junk before. For each script it writes: the script; the seven numbers of the answer; if
 // it is accepted, each token as it is looked at, taken and put back: its code, number and place and how many are left after
-// it; and the eight records, nine numbers each.
+// it; the eight records, nine numbers each; and the four numbers of the encoder's answer with the bytes that it wrote. After
+// a refusal there is no node, so the encoder refuses with 21.
 // The stored output is that of tests/record_cases.py, a reading of document 01 in Python.
 ghost use mathlib.Core.Path.{_≡_};
 ghost use Prim.Native.Nat.{_+_, _-_, _*_, _≤_, _<_};
 ghost use lib.ListN.{length};
 use cursor::NextToken;
 use decode::Answer;
+use encode::Encoded;
 use judge::Node;
 
 // The value of a hexadecimal digit, 16 for any other character.
@@ -165,6 +168,56 @@ fn show_records(kind: u32, script: &[u8]) {
     }
 }
 
+fn byte(x: u8) -> u64 {
+    x as u64
+}
+
+// So many bytes from the front of the output.
+fn show_bytes(out: &[u8], size: usize) {
+    let mut i = 0;
+    while i < size {
+        if out.len() <= i {
+            break;
+        }
+        space();
+        io::print_hex(1, byte(out[i]), 2);
+        i += 1;
+    }
+}
+
+// The four numbers of the encoder's answer.
+fn show_answer(e: Encoded) {
+    io::write_all(1, b"e ");
+    io::print_hex(1, word(e.number), 2);
+    space();
+    io::print_hex(1, word(e.reason), 2);
+    space();
+    io::print_hex(1, long(e.place), 8);
+    space();
+    io::print_hex(1, long(e.bytes), 8);
+}
+
+// The script written again from the records of its nodes, with ample tables and an output full of junk before.
+fn show_written(kind: u32, script: &[u8]) {
+    let mut tokens = [0xdeadbeefu32; 31];
+    let mut nodes = [0xdeadbeefu32; 74];
+    let mut keys = [0xdeadbeefu32; 3];
+    let mut work = [0xdeadbeefdeadbeefu64; 66];
+    let mut out = [0xaau8; 80];
+    let e = own_records::written_again(
+        kind,
+        script,
+        &mut tokens,
+        &mut nodes,
+        &mut keys,
+        &mut work,
+        &mut out,
+    );
+    show_answer(e);
+    show_bytes(&out, e.bytes);
+    line();
+}
+
 // The answer, and the tokens of a script that is accepted.
 fn show_reading(kind: u32, script: &[u8]) {
     let mut tokens = [0xdeadbeefu32; 31];
@@ -190,6 +243,7 @@ fn run(kind: u32, hex: &[u8]) {
     let n = unhex(hex, &mut script);
     show_reading(kind, &script[..n]);
     show_records(kind, &script[..n]);
+    show_written(kind, &script[..n]);
 }
 
 // The twelve before the bar.
@@ -214,6 +268,7 @@ fn run_long() {
     let script = [0x51u8; 10001];
     show_reading(0, &script);
     show_records(0, &script);
+    show_written(0, &script);
 }
 
 // Those behind it.
@@ -230,7 +285,25 @@ fn run_only() {
     run_long();
 }
 
+// Two scripts with keys, which none of the counter's has, and one that is spelt in two ways: NUMEQUAL VERIFY comes back as
+// one opcode.
+fn run_keys() {
+    run(
+        0,
+        b"51210211111111111111111111111111111111111111111111111111111111111111112103222222222222222222222222222222222222222222222222222222222222222252ae",
+    );
+    run(
+        1,
+        b"201111111111111111111111111111111111111111111111111111111111111111ac202222222222222222222222222222222222222222222222222222222222222222ba529c",
+    );
+    run(
+        1,
+        b"201111111111111111111111111111111111111111111111111111111111111111ac519c6951",
+    );
+}
+
 fn main() {
     proved_together();
     run_only();
+    run_keys();
 }

@@ -12,58 +12,71 @@ use Rattle.io.proofs.write_all.Reads as write-all-reads
 use Rattle.record_cases.proofs.line.Reads as line-reads
 use Rattle.record_cases.proofs.show_reading.Reads as show-reading-reads
 use Rattle.record_cases.proofs.show_records.Reads as show-records-reads
+use Rattle.record_cases.proofs.show_written.Reads as show-written-reads
 use Rattle.record_cases.proofs.unhex.Reads as unhex-reads
 use Rattle.record_cases.proofs.word.Reads as word-reads
 
--- src/main.rt:199:22
+-- src/main.rt:239:22
 word-requires : tie.Need-word-requires
 word-requires c κs = search needs
 
--- src/main.rt:199:5
+-- src/main.rt:239:5
 print-hex-requires : tie.Need-print-hex-requires
 print-hex-requires c κs = search needs
 
--- src/main.rt:200:5
+-- src/main.rt:240:5
 write-all-requires : tie.Need-write-all-requires
 write-all-requires c κs = search needs
 
--- src/main.rt:201:5
+-- src/main.rt:241:5
 line-requires : tie.Need-line-requires
 line-requires c κs = search needs
 
--- src/main.rt:203:24
+-- src/main.rt:243:24
 slice-aggregate-unhex : tie.Need-slice-aggregate-unhex
 slice-aggregate-unhex c = search needs
 
--- src/main.rt:203:9
+-- src/main.rt:243:9
 unhex-requires : tie.Need-unhex-requires
 unhex-requires c κs = search needs
 
--- src/main.rt:204:24
+-- src/main.rt:244:24
 array-share-prefix-script : tie.Need-array-share-prefix-script
 array-share-prefix-script c = search needs
 
--- src/main.rt:204:24
+-- src/main.rt:244:24
 slice-aggregate-show-reading : tie.Need-slice-aggregate-show-reading
 slice-aggregate-show-reading c = sym (length-take-le _ _ (omega (arith, c .before .before .unhex .kept .1 .0)))
 
--- src/main.rt:204:5
+-- src/main.rt:244:5
 show-reading-requires : tie.Need-show-reading-requires
 show-reading-requires c κs = search needs
 
--- src/main.rt:205:24
+-- src/main.rt:245:24
 array-share-prefix-script-2 : tie.Need-array-share-prefix-script-2
 array-share-prefix-script-2 c = search needs
 
--- src/main.rt:205:24
+-- src/main.rt:245:24
 slice-aggregate-show-records : tie.Need-slice-aggregate-show-records
 slice-aggregate-show-records c = sym (length-take-le _ _ (omega (arith, c .before .before .before .before .unhex .kept .1 .0)))
 
--- src/main.rt:205:5
+-- src/main.rt:245:5
 show-records-requires : tie.Need-show-records-requires
 show-records-requires c κs = search needs
 
--- src/main.rt:198:1
+-- src/main.rt:246:24
+array-share-prefix-script-3 : tie.Need-array-share-prefix-script-3
+array-share-prefix-script-3 c = search needs
+
+-- src/main.rt:246:24
+slice-aggregate-show-written : tie.Need-slice-aggregate-show-written
+slice-aggregate-show-written c = sym (length-take-le _ _ (omega (arith, c .before .before .before .before .before .before .unhex .kept .1 .0)))
+
+-- src/main.rt:246:5
+show-written-requires : tie.Need-show-written-requires
+show-written-requires c κs = search needs
+
+-- src/main.rt:238:1
 returns : tie.Need-returns
 returns c = search needs
 
@@ -83,4 +96,7 @@ run-spec =
     array-share-prefix-script-2
     slice-aggregate-show-records
     show-records-requires
+    array-share-prefix-script-3
+    slice-aggregate-show-written
+    show-written-requires
     returns)
