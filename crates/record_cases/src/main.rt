@@ -246,7 +246,7 @@ fn run(kind: u32, hex: &[u8]) {
     show_written(kind, &script[..n]);
 }
 
-// The twelve before the bar.
+// The twelve before the bar, in two halves: a shorter list is checked sooner.
 fn proved_together() {
     run(0, b"");
     run(0, b"51");
@@ -254,6 +254,10 @@ fn proved_together() {
     run(0, b"5169516951");
     run(0, b"6351670068");
     run(0, b"517c519b");
+    proved_together_too();
+}
+
+fn proved_together_too() {
     run(0, b"005187");
     run(0, b"005287");
     run(0, b"6351");
@@ -271,18 +275,22 @@ fn run_long() {
     show_written(0, &script);
 }
 
-// Those behind it.
+// Those behind it: one that is accepted, pushes, other opcodes.
 fn run_only() {
     run(0, b"51b2");
+    run_pushes();
+    run(0, b"4f");
+    run(0, b"88");
+    run_long();
+}
+
+fn run_pushes() {
     run(0, b"0105");
     run(0, b"0111");
     run(0, b"0180");
     run(0, b"0191");
     run(0, b"027f00");
     run(0, b"4c");
-    run(0, b"4f");
-    run(0, b"88");
-    run_long();
 }
 
 // Two scripts with keys, which none of the counter's has, and one that is spelt in two ways: NUMEQUAL VERIFY comes back as
