@@ -8,6 +8,7 @@ use native.Mathlib.Omega.{arith}
 use lib.Dec.{eqb, leb}
 use borrow.Author.Tests.{ne-eqb, le-leb, lt-leb, leb-true}
 use Rattle.tables.specs.Choose.{pick}
+use Rattle.tables.proofs.BoolLaws.{picked-both}
 use Rattle.instruction.specs.declared.Op.{Op}
 use Rattle.instruction.specs.declared.Op.the-variants.{Push, Sized, Num, One, Fused, Verify, Unlisted}
 use Rattle.instruction.specs.Opcode.{Row, rows, look, opOf, ranged}
@@ -79,11 +80,7 @@ narrow-ranged b = here (leb 0x51 b) (leb b 0x60) (leb b 0x4b)
     here false q true = refl
     here false q false = refl
 
-both-tests : (a b : Bool) → pick a b false ≡ true → (a ≡ true) × (b ≡ true)
-both-tests true b e = (refl, e)
-both-tests false b e = absurd (true≢false (sym e))
-
 pub width-narrow : (b w least : ℕ) {o : Op} → o ≡ opOf b → o ≡ Sized w least → (w ≤ 4) × (76 ≤ least)
 width-narrow b w least e p =
-    let t : (leb w 4 ≡ true) × (leb 76 least ≡ true) = both-tests (leb w 4) (leb 76 least) (sym (ap narrow (sym e ∙ p)) ∙ narrow-row b (ranged b) rows refl (narrow-ranged b)) in
+    let t : (leb w 4 ≡ true) × (leb 76 least ≡ true) = picked-both (leb w 4) (leb 76 least) (sym (ap narrow (sym e ∙ p)) ∙ narrow-row b (ranged b) rows refl (narrow-ranged b)) in
     (leb-true w 4 (t .0), leb-true 76 least (t .1))
