@@ -1,7 +1,7 @@
 -- What `read` leaves behind: the tables wiped after a refusal, the place of a refusal's token, and the run's end as the whole outcome. Assumes nothing.
 use mathlib.Core.Path.{_≡_, refl, sym, ap, subst, _∙_}
 use mathlib.Core.Bool.{Bool, true, false}
-use mathlib.Core.List.{List, [], _∷_, _++_, map, reverseAux}
+use mathlib.Core.List.{List, [], _∷_, _++_, map, reverseAux, reverse-reverse}
 use Prim.Native.Nat.{ℕ, zero, suc, _+_, _-_, _*_, _/_, _≤_, _<_}
 use native.Mathlib.Omega.{arith}
 use lib.Dec.{eqb, leb}
@@ -33,7 +33,6 @@ use Rattle.run.specs.declared.Ran.{Ran}
 use Rattle.run.specs.Runs.{Refuses, Ends, Runs}
 use Rattle.decode.specs.Read as read
 use Rattle.decode.specs.Read.{lengthsOf, outcomeAt, refusedAnswer, placeIn}
-use Rattle.run.proofs.RunLaws.{back}
 use Rattle.run.proofs.EndLaws.{all-zeros, behind-tail}
 
 -- Wiping
@@ -124,7 +123,7 @@ module _ (script tokens : List ℕ) (count : ℕ) (lexes : Lexes script (length 
       ap (λ (t : List ℕ). reverseAux (lexemesLeft script t count) []) table-is
       ∙ ap (λ (n : ℕ). reverseAux (lexemesLeft script (flat (map numbers ts) ++ zeros (length tokens - 3 * length ts)) n) []) (sym counted)
       ∙ ap (λ (l : List Lexeme). reverseAux l []) (all-left script (zeros (length tokens - 3 * length ts)) ts)
-      ∙ back (map (lexeme script) ts)
+      ∙ reverse-reverse (map (lexeme script) ts)
 
   -- the place of a refusal's token
   place-is : (number left : ℕ) → placeIn tokens count number left ≡ pick (eqb number 9) 0 (pick (eqb number 19) 0 (placeAt ts left))
