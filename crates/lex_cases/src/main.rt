@@ -1,42 +1,6 @@
 // Runs the lexer on document 01's scripts that are its matter and on the edges of its rules, and writes for each: the script, number, place and tokens, then each token's code, number and place. At the end, the room that some scripts need.
-ghost use Prim.Native.Nat.{_+_, _*_, _≤_};
-ghost use lib.ListN.{length};
 use lex::Ample;
 use lex::Answer;
-
-// The value of a hexadecimal digit, 16 for any other character.
-fn nibble(b: u8) -> u8
-    ensures { λ r. ⌜ r ≤ 16 ⌝ }
-{
-    match b {
-        48..=57 => b - 48,
-        97..=102 => b - 87,
-        _ => 16,
-    }
-}
-
-// The bytes of a text in hexadecimal, at the front of dst; how many, up to the first character that is no digit.
-fn unhex(src: &[u8], dst: &mut [u8]) -> usize
-    ensures { λ r. ⌜ r ≤ length (now (dst .entry)) ⌝ }
-{
-    let mut n = 0;
-    while n < dst.len() {
-        if src.len() - n < n + 2 {
-            break;
-        }
-        let a = nibble(src[n + n]);
-        let b = nibble(src[n + n + 1]);
-        if 15 < a {
-            break;
-        }
-        if 15 < b {
-            break;
-        }
-        dst[n] = 16 * a + b;
-        n += 1;
-    }
-    n
-}
 
 fn word(x: u32) -> u64 {
     x as u64
@@ -96,7 +60,7 @@ fn run(hex: &[u8], more: usize, room: usize) {
     io::write_all(1, hex);
     line();
     let mut script = [0xaau8; 10001];
-    let n = unhex(hex, &mut script);
+    let n = hex_text::unhex(hex, &mut script);
     let mut table = [7u32; 48];
     if script.len() - n < more {
         return;
@@ -164,7 +128,7 @@ fn room_of(hex: &[u8]) {
     io::write_all(1, hex);
     line();
     let mut script = [0u8; 64];
-    let n = unhex(hex, &mut script);
+    let n = hex_text::unhex(hex, &mut script);
     match lex::room(&script[..n]) {
         Ample::Sizes {
             tokens,

@@ -4,43 +4,7 @@
 // whole, cell by cell in hexadecimal, the token table (t), the node table (n), the key table (k) and the work table (w).
 // The stored output is not taken from this program: tests/reader_cases.py writes it with a reader of its own, and finds by
 // trying the least room of each table with which a script's answer stays the same.
-ghost use Prim.Native.Nat.{_+_, _*_, _≤_};
-ghost use lib.ListN.{length};
 use decode::Answer;
-
-// The value of a hexadecimal digit, 16 for any other character.
-fn nibble(b: u8) -> u8
-    ensures { λ r. ⌜ r ≤ 16 ⌝ }
-{
-    match b {
-        48..=57 => b - 48,
-        97..=102 => b - 87,
-        _ => 16,
-    }
-}
-
-// The bytes of a text in hexadecimal, at the front of dst; how many, up to the first character that is no digit.
-fn unhex(src: &[u8], dst: &mut [u8]) -> usize
-    ensures { λ r. ⌜ r ≤ length (now (dst .entry)) ⌝ }
-{
-    let mut n = 0;
-    while n < dst.len() {
-        if src.len() - n < n + 2 {
-            break;
-        }
-        let a = nibble(src[n + n]);
-        let b = nibble(src[n + n + 1]);
-        if 15 < a {
-            break;
-        }
-        if 15 < b {
-            break;
-        }
-        dst[n] = 16 * a + b;
-        n += 1;
-    }
-    n
-}
 
 fn word(x: u32) -> u64 {
     x as u64
@@ -150,7 +114,7 @@ fn run(kind: u32, hex: &[u8], more: usize, tokens: usize, nodes: usize, keys: us
     io::write_all(1, hex);
     line();
     let mut script = [0xaau8; 10001];
-    let n = unhex(hex, &mut script);
+    let n = hex_text::unhex(hex, &mut script);
     if script.len() - n < more {
         return;
     }

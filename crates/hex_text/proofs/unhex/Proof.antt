@@ -1,19 +1,21 @@
--- `reader_cases::unhex` meets its contract. Assumes nothing.
-use mathlib.Core.Path.{_≡_}
-use Prim.Native.Nat.{_≤_, _*_, _-_}
+-- `hex_text::unhex` meets its contract. Assumes nothing.
+use Prim.Native.Nat.{_-_}
+use native.Mathlib.Omega.{arith}
 use lib.ListN.{length}
+use denote.Ref.{now}
+use Rattle.hex_text.proofs.ReadingLaws.{Reading, begun, again, full, text-ends, first-ends, second-ends}
 use borrow.Author.Needs.{needs}
-use Rattle.reader_cases.proofs.unhex.Statement.{statement}
-use Rattle.reader_cases.proofs.unhex.Tie as tie
+use Rattle.hex_text.proofs.unhex.Statement.{statement}
+use Rattle.hex_text.proofs.unhex.Tie as tie
 
 abbrev Inv-loop : tie.InvT-loop
-Inv-loop src dst₀ n₀ dst n = (n ≤ length dst₀) × (length dst ≡ length dst₀) × (2 * n ≤ length src)
+Inv-loop src dst₀ n₀ dst n = Reading src dst₀ dst n
 
 abbrev μ-loop : tie.MeasureT-loop
 μ-loop src dst₀ n₀ dst n = length dst₀ - n
 
 loop-holds : tie.Need-loop-holds Inv-loop μ-loop
-loop-holds c = search needs
+loop-holds c = begun (now (c .before .before .args .src)) (now (c .before .before .args .dst))
 
 sub-if1 : tie.Need-sub-if1 Inv-loop μ-loop
 sub-if1 c = search needs
@@ -58,31 +60,31 @@ loop-less : tie.Need-loop-less Inv-loop μ-loop
 loop-less c = search needs
 
 loop-again : tie.Need-loop-again Inv-loop μ-loop
-loop-again c = search needs
+loop-again c = again (c .before .before .before .before .before .before .before .before .loop .inv) _ _ (omega (arith, c .before .before .before .before .before .before .before .loop-test .taken, c .before .before .before .before .before .before .before .before .loop .inv .same-length)) (omega (arith, c .before .before .before .before .before .before .if1 .left, c .before .before .before .before .before .before .before .before .loop .inv .inside)) (c .before .before .before .before .nibble .ensures) (c .before .before .nibble2 .ensures) (omega (arith, c .before .if2 .left)) (omega (arith, c .if3 .left))
 
 same-length : tie.Need-same-length Inv-loop μ-loop
 same-length c = search needs
 
 returns : tie.Need-returns Inv-loop μ-loop
-returns c = search needs
+returns c = full (c .before .loop .inv) (omega (arith, c .loop-test .left, c .before .loop .inv .same-length))
 
 same-length-2 : tie.Need-same-length-2 Inv-loop μ-loop
 same-length-2 c = search needs
 
 returns-2 : tie.Need-returns-2 Inv-loop μ-loop
-returns-2 c = search needs
+returns-2 c = text-ends (c .before .before .loop .inv) (c .if1 .taken)
 
 same-length-3 : tie.Need-same-length-3 Inv-loop μ-loop
 same-length-3 c = search needs
 
 returns-3 : tie.Need-returns-3 Inv-loop μ-loop
-returns-3 c = search needs
+returns-3 c = first-ends (c .before .before .before .before .before .before .before .loop .inv) (omega (arith, c .before .before .before .before .before .before .loop-test .taken, c .before .before .before .before .before .before .before .loop .inv .same-length)) (omega (arith, c .before .before .before .before .before .if1 .left, c .before .before .before .before .before .before .before .loop .inv .inside)) _ (c .before .before .before .nibble .ensures) (c .if2 .taken)
 
 same-length-4 : tie.Need-same-length-4 Inv-loop μ-loop
 same-length-4 c = search needs
 
 returns-4 : tie.Need-returns-4 Inv-loop μ-loop
-returns-4 c = search needs
+returns-4 c = second-ends (c .before .before .before .before .before .before .before .before .loop .inv) (omega (arith, c .before .before .before .before .before .before .before .loop-test .taken, c .before .before .before .before .before .before .before .before .loop .inv .same-length)) (omega (arith, c .before .before .before .before .before .before .if1 .left, c .before .before .before .before .before .before .before .before .loop .inv .inside)) _ (c .before .before .nibble2 .ensures) (c .if3 .taken)
 
 pub unhex-spec : {M : Type 1} → statement M
 unhex-spec =

@@ -1,0 +1,2 @@
+-- Laws that the proof of `unhex` cites.
+pub mod ReadingLaws

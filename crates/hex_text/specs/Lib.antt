@@ -1,0 +1,3 @@
+-- The bytes of a text in hexadecimal.
+pub mod HexText
+pub mod HexTextLaws
