@@ -14,40 +14,6 @@ use decode::Answer;
 use encode::Encoded;
 use judge::Node;
 
-// The value of a hexadecimal digit, 16 for any other character.
-fn nibble(b: u8) -> u8
-    ensures { λ r. ⌜ r ≤ 16 ⌝ }
-{
-    match b {
-        48..=57 => b - 48,
-        97..=102 => b - 87,
-        _ => 16,
-    }
-}
-
-// The bytes of a text in hexadecimal, at the front of dst; how many, up to the first character that is no digit.
-fn unhex(src: &[u8], dst: &mut [u8]) -> usize
-    ensures { λ r. ⌜ r ≤ length (now (dst .entry)) ⌝ }
-{
-    let mut n = 0;
-    while n < dst.len() {
-        if src.len() - n < n + 2 {
-            break;
-        }
-        let a = nibble(src[n + n]);
-        let b = nibble(src[n + n + 1]);
-        if 15 < a {
-            break;
-        }
-        if 15 < b {
-            break;
-        }
-        dst[n] = 16 * a + b;
-        n += 1;
-    }
-    n
-}
-
 fn word(x: u32) -> u64 {
     x as u64
 }
@@ -240,7 +206,7 @@ fn run(kind: u32, hex: &[u8]) {
     io::write_all(1, hex);
     line();
     let mut script = [0u8; 80];
-    let n = unhex(hex, &mut script);
+    let n = hex_text::unhex(hex, &mut script);
     show_reading(kind, &script[..n]);
     show_records(kind, &script[..n]);
     show_written(kind, &script[..n]);

@@ -13,7 +13,6 @@ use Rattle.record_cases.proofs.line.Reads as line-reads
 use Rattle.record_cases.proofs.show_reading.Reads as show-reading-reads
 use Rattle.record_cases.proofs.show_records.Reads as show-records-reads
 use Rattle.record_cases.proofs.show_written.Reads as show-written-reads
-use Rattle.record_cases.proofs.unhex.Reads as unhex-reads
 use Rattle.record_cases.proofs.word.Reads as word-reads
 
 -- src/main.rt:239:22
