@@ -340,17 +340,17 @@ module _ {M : Type 1} (𝓤 : URA M) (H : Heap 𝓤) (A : Atoms 𝓤) (W : Given
         lft-new ! tt (λ ν₄. move ! (14 ∷ 9 ∷ []) $ use2 W (later (some (λ (δ : GName). ‵ (Keys (ν₄ ∷ []) δ ks) ⊛ ‵ (LentAgain u32 κ₄ (ν₄ ∷ []) q₄ γ₄ b₄ o₄ δ ks)))) (lends-again u32 κ₄ (ν₄ ∷ []) q₄ γ₄ b₄ o₄ 𝓤 H A W (named 3) (named 3) ks) $ await ! tt $ pick ! (λ δ₄. split ! $
         lft-new ! tt (λ ν₅. move ! (15 ∷ 11 ∷ []) $ use2 W (later (some (λ (δ : GName). ‵ (Work (ν₅ ∷ []) δ vs) ⊛ ‵ (LentAgain u64 κ₅ (ν₅ ∷ []) q₅ γ₅ b₅ o₅ δ vs)))) (lends-again u64 κ₅ (ν₅ ∷ []) q₅ γ₅ b₅ o₅ 𝓤 H A W (named 4) (named 4) vs) $ await ! tt $ pick ! (λ δ₅. split ! $
         move ! (17 ∷ []) $ use1 W (‵ Script ⊛ ‵ Script) (shr-slice-copy 𝓤 H A W (named 0) κ₁ u8 .twice c (sc ∷ [])) $ split ! $
-        -- [the script's copy; the script; the work again; the work kept; ν₅'s token; the keys again; the keys kept; ν₄'s token; the nodes again; the nodes kept; ν₃'s token; the array; the lender's part; ν's token; κ₆'s token; κ₂'s token; κ₁'s token; the output; the tokens; the kind's; the locals from 20 on]
+        -- [the script's copy; the script; the work, lent again; what is kept of the work; ν₅'s token; the keys, lent again; what is kept of the keys; ν₄'s token; the nodes, lent again; what is kept of the nodes; ν₃'s token; the array; the lender's part; ν's token; κ₆'s token; κ₂'s token; κ₁'s token; the output; the tokens; the kind's; the locals from 20 on]
         move ! (7 ∷ 4 ∷ []) $ fjoin ! $ move ! (12 ∷ 0 ∷ []) $ fjoin ! $ move ! (9 ∷ 0 ∷ []) $ fjoin ! $ move ! (12 ∷ 0 ∷ []) $ fjoin ! $ move ! (12 ∷ 0 ∷ []) $ fjoin ! $
         move ! (5 ∷ 3 ∷ []) $ fjoin ! $ move ! (8 ∷ 0 ∷ []) $ fjoin ! $ move ! (6 ∷ 0 ∷ []) $ fjoin ! $ move ! (10 ∷ 0 ∷ []) $ fjoin ! $ move ! (2 ∷ 0 ∷ []) $ fjoin ! $
         move ! (1 ∷ 0 ∷ []) $ use2 W (raw (Reads 𝓤 H A mem run .pre (to-read ν ν₃ ν₄ ν₅ l₈ γ r δ₃ δ₄ δ₅))) (goes-read ν ν₃ ν₄ ν₅ l₈ γ r δ₃ δ₄ δ₅) $
-        -- [what `read_records` asks; the script; the work kept; the keys kept; the nodes kept; the lender's part; κ₆'s token; the output; the kind's; the locals from 9 on]
+        -- [what `read_records` asks; the script; what is kept of the work; what is kept of the keys; what is kept of the nodes; the lender's part; κ₆'s token; the output; the kind's; the locals from 9 on]
         calls-at ! fm (Reads 𝓤 H A mem run) known-read (to-read ν ν₃ ν₄ ν₅ l₈ γ r δ₃ δ₄ δ₅) (and-then ! (load ! (from ! (stop !)) (look ! 68 refl)) (and-then ! (load ! (from ! (stop !)) (look ! 66 refl)) (and-then ! (load ! (from ! (stop !)) (look ! 45 refl)) (and-then ! (load ! (from ! (stop !)) (look ! 41 refl)) (and-then ! (load ! (from ! (stop !)) (look ! 37 refl)) (and-then ! (load ! (from ! (stop !)) (look ! 33 refl)) (and-then ! (load ! (from ! (stop !)) (look ! 29 refl)) (no-more !)))))))) (λ z.
         use1 W (later (some (λ (r₁ : Answer). ((‵ (flft κ₁ q₁) ⊛ ‵ (flft κ₂ q₂) ⊛ ‵ (flft (ν₃ ∷ []) fullShare) ⊛ ‵ (flft (ν ∷ []) fullShare) ⊛ ‵ (flft (ν₄ ∷ []) fullShare) ⊛ ‵ (flft (ν₅ ∷ []) fullShare) ⊛ ‵ ftrue) ⊛ ‵ (S.the-row .own r₁ (z ∷ []))) ⊛ raw (ensured 𝓤 H A read-records.ended (read-records.clauses 𝓤 H A mem run) (read-κs ν ν₃ ν₄ ν₅) (read-args l₈ γ r δ₃ δ₄ δ₅) tt r₁)))) (id⊢ 𝓤 _) $ await ! tt $ pick ! (λ r₁.
         split ! $ move ! (1 ∷ []) $ use1 W (some (λ (ws : ReadLasts). ‵ (lasts read-records.ended (read-κs ν ν₃ ν₄ ν₅) (read-args l₈ γ r δ₃ δ₄ δ₅) ws) ⊛ raw (fact 𝓤 (ReadSaid r₁ ws)))) (id⊢ 𝓤 _) $ pick ! (λ ws.
         split ! $ move ! (1 ∷ []) $ heard ! (ReadSaid r₁ ws) (λ e. fsplit ! $ drop ! $ fsplit ! $ drop ! $
         fsplit ! $ fsplit ! $ move ! (1 ∷ []) $ feqL ! (λ lt. move ! (1 ∷ []) $ fsplit ! $ fsplit ! $ move ! (1 ∷ []) $ feqL ! (λ lx. move ! (1 ∷ []) $ fsplit ! $ fsplit ! $ move ! (1 ∷ []) $ feqL ! (λ lr. move ! (1 ∷ []) $ fsplit ! $ fsplit ! $ move ! (1 ∷ []) $ feqL ! (λ lk. move ! (1 ∷ []) $ fsplit ! $ fsplit ! $ move ! (1 ∷ []) $ feqL ! (λ lw. move ! (1 ∷ []) $ drop ! $
-        -- [the last work; the last keys; the last records; the last nodes; the last tokens; lives and result; the script; the work kept; the keys kept; the nodes kept; the lender's part; κ₆'s token; the output; the kind's; the locals from 14 on]
+        -- [the last work; the last keys; the last records; the last nodes; the last tokens; the lifetimes' tokens and the result; the script; what is kept of the work; what is kept of the keys; what is kept of the nodes; the lender's part; κ₆'s token; the output; the kind's; the locals from 14 on]
         move ! (5 ∷ []) $ split ! $ move ! (1 ∷ []) $ peeks ! S.the-row (Is S.the-row) (shows 𝓤 H A S.the-row) r₁ (z ∷ []) (λ is₁. land ! (from ! (stop !)) (init ! 59 refl (LL.lawful S.the-type S′.the-laws 𝓤 H A W .typed r₁ _ is₁ .0)) $
         move ! (1 ∷ []) $ split ! $ move ! (1 ∷ []) $ split ! $ move ! (1 ∷ []) $ split ! $ lft-end ! tt $ move ! (0 ∷ 13 ∷ 8 ∷ []) $ use3 W (later (‵ (Nodes κ₃ γ₃ (ws .1 .1 .1 .0)) ⊛ ‵ (flft κ₃ q₃))) (comes-back u32 κ₃ (ν₃ ∷ []) q₃ γ₃ b₃ o₃ 𝓤 H A W (named 2) (named 2) xs δ₃ (ws .1 .1 .1 .0) room₃ lx) $ await ! tt $ split ! $
         move ! (2 ∷ []) $ split ! $ lft-end ! tt $ move ! (0 ∷ 14 ∷ 9 ∷ []) $ use3 W (later (‵ (row R fullShare (ws .1 .1 .1 .1 .0) l₈ 0))) (array-back 𝓤 H A W 8 l₈ (ν ∷ []) γ (ws .1 .1 .1 .1 .0)) $ await ! tt $
@@ -380,23 +380,23 @@ module _ {M : Type 1} (𝓤 : URA M) (H : Heap 𝓤) (A : Atoms 𝓤) (W : Given
         lft-new ! tt (λ μ. move ! (5 ∷ []) $ use1 W (later (some (λ (η : GName). ‵ (Front μ l₈ η n (ws .1 .1 .1 .1 .0)) ⊛ ‵ (LentFront l₈ n (ws .1 .1 .1 .1 .0) (μ ∷ []))))) (lends-front l₈ n (ws .1 .1 .1 .1 .0) 𝓤 H A W (named 0) (μ ∷ []) n (front-length n (ws .1 .1 .1 .1 .0) lr (few r₁ ws e n d lr)) (room-take R 8 n (ws .1 .1 .1 .1 .0) lr room)) $ await ! tt $ pick ! (λ η. split ! $
         lft-new ! tt (λ μ₄. move ! (6 ∷ 7 ∷ []) $ use2 W (later (some (λ (ε : GName). ‵ (SharedKeys μ₄ ε (ws .1 .1 .1 .1 .1 .0)) ⊛ ‵ (LentShared u32 κ₄ (μ₄ ∷ []) q₄ γ₄ b₄ o₄ (ws .1 .1 .1 .1 .1 .0))))) (lends-shared u32 κ₄ (μ₄ ∷ []) q₄ γ₄ b₄ o₄ 𝓤 H A W (named 3) (named 2) (ws .1 .1 .1 .1 .1 .0) (length ks) lk) $ await ! tt $ pick ! (λ ε. split ! $
         move ! (13 ∷ []) $ use1 W (‵ Script ⊛ ‵ Script) (shr-slice-copy 𝓤 H A W (named 0) κ₁ u8 .twice c (sc ∷ [])) $ split ! $
-        -- [the script's copy; the script; the shared keys; the keys kept; μ₄'s token; the front; the front kept; μ's token; the work; κ₅'s token; the nodes; κ₃'s token; κ₂'s token; κ₁'s token; the last tokens; κ₆'s token; the output; the kind's; the locals from 18 on]
+        -- [the script's copy; the script; the shared keys; what is kept of the keys; μ₄'s token; the front; what is kept of the front; μ's token; the work; κ₅'s token; the nodes; κ₃'s token; κ₂'s token; κ₁'s token; the last tokens; κ₆'s token; the output; the kind's; the locals from 18 on]
         move ! (9 ∷ 15 ∷ []) $ fjoin ! $ move ! (13 ∷ 0 ∷ []) $ fjoin ! $ move ! (5 ∷ 0 ∷ []) $ fjoin ! $ move ! (10 ∷ 0 ∷ []) $ fjoin ! $ move ! (7 ∷ 0 ∷ []) $ fjoin ! $
         move ! (7 ∷ 11 ∷ []) $ fjoin ! $ move ! (2 ∷ 0 ∷ []) $ fjoin ! $ move ! (3 ∷ 0 ∷ []) $ fjoin ! $ move ! (6 ∷ 0 ∷ []) $ fjoin ! $ move ! (4 ∷ 0 ∷ []) $ fjoin ! $
         move ! (1 ∷ 0 ∷ []) $ use2 W (raw (Encodes 𝓤 H A mem run .pre (to-encode μ μ₄ l₈ η ε n (ws .1 .1 .1 .0) (ws .1 .1 .1 .1 .0) (ws .1 .1 .1 .1 .1 .0) (ws .1 .1 .1 .1 .1 .1 .0)))) (goes-encode μ μ₄ l₈ η ε n (ws .1 .1 .1 .0) (ws .1 .1 .1 .1 .0) (ws .1 .1 .1 .1 .1 .0) (ws .1 .1 .1 .1 .1 .1 .0)) $
-        -- [what `encode_records` asks; the script; the keys kept; the front kept; κ₂'s token; the last tokens; the kind's; the locals from 7 on]
+        -- [what `encode_records` asks; the script; what is kept of the keys; what is kept of the front; κ₂'s token; the last tokens; the kind's; the locals from 7 on]
         calls-at ! fm (Encodes 𝓤 H A mem run) known-encode (to-encode μ μ₄ l₈ η ε n (ws .1 .1 .1 .0) (ws .1 .1 .1 .1 .0) (ws .1 .1 .1 .1 .1 .0) (ws .1 .1 .1 .1 .1 .1 .0)) (and-then ! (load ! (from ! (stop !)) (look ! 66 refl)) (and-then ! (load ! (from ! (stop !)) (look ! 23 refl)) (and-then ! (load ! (from ! (stop !)) (look ! 19 refl)) (and-then ! (load ! (from ! (stop !)) (look ! 15 refl)) (and-then ! (load ! (from ! (stop !)) (look ! 64 refl)) (and-then ! (load ! (from ! (stop !)) (look ! 11 refl)) (and-then ! (load ! (from ! (stop !)) (look ! 7 refl)) (no-more !)))))))) (λ w₂.
         use1 W (later (some (λ (r₂ : Encoded). ((‵ (flft (μ ∷ []) fullShare) ⊛ ‵ (flft κ₃ q₃) ⊛ ‵ (flft (μ₄ ∷ []) fullShare) ⊛ ‵ (flft κ₁ q₁) ⊛ ‵ (flft κ₅ q₅) ⊛ ‵ (flft κ₆ q₆) ⊛ ‵ ftrue) ⊛ ‵ (E.the-row .own r₂ (w₂ ∷ []))) ⊛ raw (ensured 𝓤 H A encode-records.ended (encode-records.clauses 𝓤 H A mem run) (encode-κs μ μ₄) (encode-args l₈ η ε n (ws .1 .1 .1 .0) (ws .1 .1 .1 .1 .0) (ws .1 .1 .1 .1 .1 .0) (ws .1 .1 .1 .1 .1 .1 .0)) tt r₂)))) (id⊢ 𝓤 _) $ await ! tt $ pick ! (λ r₂.
         split ! $ move ! (1 ∷ []) $ use1 W (some (λ (ps : EncodeLasts). ‵ (lasts encode-records.ended (encode-κs μ μ₄) (encode-args l₈ η ε n (ws .1 .1 .1 .0) (ws .1 .1 .1 .1 .0) (ws .1 .1 .1 .1 .1 .0) (ws .1 .1 .1 .1 .1 .1 .0)) ps) ⊛ raw (fact 𝓤 (EncodeSaid n (ws .1 .1 .1 .0) (ws .1 .1 .1 .1 .0) (ws .1 .1 .1 .1 .1 .0) (ws .1 .1 .1 .1 .1 .1 .0) r₂ ps)))) (id⊢ 𝓤 _) $ pick ! (λ ps.
         split ! $ move ! (1 ∷ []) $ heard ! (EncodeSaid n (ws .1 .1 .1 .0) (ws .1 .1 .1 .1 .0) (ws .1 .1 .1 .1 .1 .0) (ws .1 .1 .1 .1 .1 .1 .0) r₂ ps) (λ f. fsplit ! $ drop ! $ fsplit ! $ drop ! $
         fsplit ! $ fsplit ! $ move ! (1 ∷ []) $ feqL ! (λ mx. move ! (1 ∷ []) $ fsplit ! $ drop ! $ fsplit ! $ drop ! $ fsplit ! $ fsplit ! $ move ! (1 ∷ []) $ feqL ! (λ mw. move ! (1 ∷ []) $ fsplit ! $ fsplit ! $ move ! (1 ∷ []) $ feqL ! (λ mo. move ! (1 ∷ []) $ drop ! $
-        -- [the last output; the last work; the last flat table; lives and result; the script; the keys kept; the front kept; κ₂'s token; the last tokens; the kind's; the locals from 10 on]
+        -- [the last output; the last work; the last flat table; the lifetimes' tokens and the result; the script; what is kept of the keys; what is kept of the front; κ₂'s token; the last tokens; the kind's; the locals from 10 on]
         move ! (3 ∷ []) $ split ! $ move ! (1 ∷ []) $ peeks ! E.the-row (Is E.the-row) (shows 𝓤 H A E.the-row) r₂ (w₂ ∷ []) (λ is₂. land ! (from ! (stop !)) (init ! 72 refl (LL.lawful E.the-type E′.the-laws 𝓤 H A W .typed r₂ _ is₂ .0)) $
         move ! (1 ∷ []) $ split ! $ lft-end ! tt $ move ! (0 ∷ 8 ∷ []) $ use2 W (later (‵ (row R fullShare (ws .1 .1 .1 .1 .0) l₈ 0))) (front-back l₈ n (ws .1 .1 .1 .1 .0) 𝓤 H A W (μ ∷ [])) $ await ! tt $
         use1 W (‵ (froom (tyArray T′.mir 8) l₈ 0)) (array-room 𝓤 H A W 8 l₈ (ws .1 .1 .1 .1 .0) lr) $
         move ! (1 ∷ []) $ split ! $ move ! (1 ∷ []) $ split ! $ lft-end ! tt $ move ! (0 ∷ 9 ∷ []) $ use2 W (later (‵ (Keys κ₄ γ₄ (ws .1 .1 .1 .1 .1 .0)) ⊛ ‵ (flft κ₄ q₄))) (shared-back u32 κ₄ (μ₄ ∷ []) q₄ γ₄ b₄ o₄ 𝓤 H A W (named 3) (named 2) (ws .1 .1 .1 .1 .1 .0) (length ks) lk (subst (Room u32) (sym lk) room₄)) $ await ! tt $ split ! $
         move ! (2 ∷ []) $ split ! $
-        -- [κ₁'s token; κ₅'s and κ₆'s tokens; the keys; κ₄'s token; κ₃'s token; the result; the last output; the last work; the last flat table; the script; κ₂'s token; the last tokens; the kind's; the locals from 5 on]
+        -- [κ₁'s token; κ₅'s and κ₆'s tokens; the keys; κ₄'s token; κ₃'s token; the array's room; the result; the last output; the last work; the last flat table; the script; κ₂'s token; the last tokens; the kind's; the locals from 14 on]
         returns ! (look ! 75 refl) $ forget ! 14 refl $ forget ! 16 refl $ forget ! 18 refl $ forget ! 20 refl $ forget ! 22 refl $ forget ! 24 refl $ forget ! 26 refl $ forget ! 28 refl $ forget ! 30 refl $ forget ! 32 refl $ forget ! 34 refl $ forget ! 36 refl $ forget ! 38 refl $ forget ! 40 refl $ forget ! 42 refl $ forget ! 44 refl $ forget ! 46 refl $ forget ! 48 refl $ forget ! 50 refl $ forget ! 52 refl $ forget ! 54 refl $ forget ! 56 refl $ forget ! 58 refl $ forget ! 61 refl $ forget ! 63 refl $ forget ! 65 refl $ forget ! 67 refl $ forget ! 69 refl $ forget ! 71 refl $ forget ! 73 refl $ forget ! 75 refl $
         move ! (75 ∷ 76 ∷ []) $ free1 ! $ move ! (73 ∷ 74 ∷ []) $ free1 ! $ move ! (71 ∷ 72 ∷ []) $ free1 ! $ move ! (69 ∷ 70 ∷ []) $ free1 ! $ move ! (67 ∷ 68 ∷ []) $ free1 ! $ move ! (65 ∷ 66 ∷ []) $ free1 ! $ move ! (63 ∷ 64 ∷ []) $ free1 ! $ move ! (61 ∷ 62 ∷ []) $ free1 ! $ move ! (5 ∷ 60 ∷ []) $ free1 ! $ move ! (57 ∷ 58 ∷ []) $ free1 ! $ move ! (55 ∷ 56 ∷ []) $ free1 ! $ move ! (53 ∷ 54 ∷ []) $ free1 ! $ move ! (51 ∷ 52 ∷ []) $ free1 ! $ move ! (49 ∷ 50 ∷ []) $ free1 ! $ move ! (47 ∷ 48 ∷ []) $ free1 ! $ move ! (45 ∷ 46 ∷ []) $ free1 ! $ move ! (43 ∷ 44 ∷ []) $ free1 ! $ move ! (41 ∷ 42 ∷ []) $ free1 ! $ move ! (39 ∷ 40 ∷ []) $ free1 ! $ move ! (37 ∷ 38 ∷ []) $ free1 ! $ move ! (35 ∷ 36 ∷ []) $ free1 ! $ move ! (33 ∷ 34 ∷ []) $ free1 ! $ move ! (31 ∷ 32 ∷ []) $ free1 ! $ move ! (29 ∷ 30 ∷ []) $ free1 ! $ move ! (27 ∷ 28 ∷ []) $ free1 ! $ move ! (25 ∷ 26 ∷ []) $ free1 ! $ move ! (23 ∷ 24 ∷ []) $ free1 ! $ move ! (21 ∷ 22 ∷ []) $ free1 ! $ move ! (19 ∷ 20 ∷ []) $ free1 ! $ move ! (17 ∷ 18 ∷ []) $ free1 ! $ move ! (15 ∷ 16 ∷ []) $ free1 ! $ move ! (13 ∷ 14 ∷ []) $ free1 ! $ free0 ! $
         keep ! (1 ∷ 3 ∷ 4 ∷ 10 ∷ 0 ∷ 6 ∷ 7 ∷ 2 ∷ 8 ∷ 11 ∷ 9 ∷ 12 ∷ 5 ∷ []) $ by ! (exits r₂ w₂ (ws .1 .1 .0) (ps .1 .1 .0) (ws .1 .1 .1 .1 .1 .0) (ps .1 .1 .1 .1 .1 .0) (ps .1 .1 .1 .1 .1 .1 .0) lt (mx ∙ lx) lk (mw ∙ lw) mo (both-are kind (now c) lengths (recordOutcomeOf kind (now c) lengths 8) r₁ (ws .1 .1 .0) (ws .1 .1 .1 .0) (ws .1 .1 .1 .1 .1 .0) (ws .1 .1 .1 .1 .1 .1 .0) (ws .1 .1 .1 .1 .0) n os r₂ (ps .1 .1 .0) (ps .1 .1 .1 .1 .1 .0) (ps .1 .1 .1 .1 .1 .1 .0) e d lx lw f)))))))))))))))))))))))))))))))))))))))))))))))))))))))))))))))))))))))
