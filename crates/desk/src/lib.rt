@@ -86,16 +86,16 @@ fn write_front(out: &[u8], hand: Hand) -> Hand
     ensures { λ r. ⌜ r ≡ laid hand (hand .next) (r .used) ⌝ }
 {
     let to = hand.used;
-    let mut held = hand;
-    while held.used > 0 {
-        let before = held.used;
-        held = write_some(out, to, held);
-        if held.used == before {
+    let mut waiting = hand;
+    while waiting.used > 0 {
+        let before = waiting.used;
+        waiting = write_some(out, to, waiting);
+        if waiting.used == before {
             os::fail(b"a write failed, and the listings end here");
-            return held;
+            return waiting;
         }
     }
-    held
+    waiting
 }
 
 // Turn after turn of the clerk, each written, until nothing is owed for this part of the input.

@@ -9,10 +9,10 @@ use Rattle.desk.proofs.write_front.Statement.{statement}
 use Rattle.desk.proofs.write_front.Tie as tie
 
 abbrev Inv-loop : tie.InvT-loop
-Inv-loop out to held₀ t6 held = (held ≡ laid held₀ (held₀ .next) (held .used)) × (held .used ≤ to)
+Inv-loop out to waiting₀ t6 waiting = (waiting ≡ laid waiting₀ (waiting₀ .next) (waiting .used)) × (waiting .used ≤ to)
 
 abbrev μ-loop : tie.MeasureT-loop
-μ-loop out to held₀ t6 held = held .used
+μ-loop out to waiting₀ t6 waiting = waiting .used
 
 loop-holds : tie.Need-loop-holds Inv-loop μ-loop
 loop-holds c = (refl, omega arith)
@@ -27,13 +27,13 @@ fail-requires : tie.Need-fail-requires Inv-loop μ-loop
 fail-requires c κs = search needs
 
 returns : tie.Need-returns Inv-loop μ-loop
-returns c = crossed-again (c .before .before .before .before .before .before .before .before .before .args .hand) (c .before .before .before .before .before .before .before .loop .held) (c .before .before .before .before .write-some .result) (c .before .before .before .before .before .before .before .loop .inv .0) (c .before .before .before .before .write-some .ensures .0)
+returns c = crossed-again (c .before .before .before .before .before .before .before .before .before .args .hand) (c .before .before .before .before .before .before .before .loop .waiting) (c .before .before .before .before .write-some .result) (c .before .before .before .before .before .before .before .loop .inv .0) (c .before .before .before .before .write-some .ensures .0)
 
 loop-less : tie.Need-loop-less Inv-loop μ-loop
 loop-less c = omega (arith, c .before .before .write-some .ensures .1, c .if2 .left)
 
 loop-again : tie.Need-loop-again Inv-loop μ-loop
-loop-again c = (crossed-again (c .before .before .before .before .before .before .before .args .hand) (c .before .before .before .before .before .loop .held) (c .before .before .write-some .result) (c .before .before .before .before .before .loop .inv .0) (c .before .before .write-some .ensures .0), omega (arith, c .before .before .write-some .ensures .1, c .before .before .before .before .before .loop .inv .1))
+loop-again c = (crossed-again (c .before .before .before .before .before .before .before .args .hand) (c .before .before .before .before .before .loop .waiting) (c .before .before .write-some .result) (c .before .before .before .before .before .loop .inv .0) (c .before .before .write-some .ensures .0), omega (arith, c .before .before .write-some .ensures .1, c .before .before .before .before .before .loop .inv .1))
 
 returns-2 : tie.Need-returns-2 Inv-loop μ-loop
 returns-2 c = c .before .before .loop .inv .0
