@@ -29,7 +29,7 @@ pub enum Meaning {
 }
 
 // The value of a hexadecimal digit of either case; 16 for any other byte.
-fn digit(b: u8) -> u8
+pub fn digit(b: u8) -> u8
     ensures { λ r. ⌜ r ≡ digitOf b ⌝ }
 {
     match b {

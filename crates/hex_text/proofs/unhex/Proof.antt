@@ -23,26 +23,26 @@ sub-if1 c = search needs
 add-if1 : tie.Need-add-if1 Inv-loop μ-loop
 add-if1 c = search needs
 
-add-nibble : tie.Need-add-nibble Inv-loop μ-loop
-add-nibble c = search needs
+add-digit : tie.Need-add-digit Inv-loop μ-loop
+add-digit c = search needs
 
-shared-slice-read-nibble : tie.Need-shared-slice-read-nibble Inv-loop μ-loop
-shared-slice-read-nibble c = search needs
+shared-slice-read-digit : tie.Need-shared-slice-read-digit Inv-loop μ-loop
+shared-slice-read-digit c = search needs
 
-nibble-requires : tie.Need-nibble-requires Inv-loop μ-loop
-nibble-requires c κs = search needs
+digit-requires : tie.Need-digit-requires Inv-loop μ-loop
+digit-requires c κs = search needs
 
-add-nibble-2 : tie.Need-add-nibble-2 Inv-loop μ-loop
-add-nibble-2 c = search needs
+add-digit-2 : tie.Need-add-digit-2 Inv-loop μ-loop
+add-digit-2 c = search needs
 
-add-nibble-3 : tie.Need-add-nibble-3 Inv-loop μ-loop
-add-nibble-3 c = search needs
+add-digit-3 : tie.Need-add-digit-3 Inv-loop μ-loop
+add-digit-3 c = search needs
 
-shared-slice-read-nibble-2 : tie.Need-shared-slice-read-nibble-2 Inv-loop μ-loop
-shared-slice-read-nibble-2 c = search needs
+shared-slice-read-digit-2 : tie.Need-shared-slice-read-digit-2 Inv-loop μ-loop
+shared-slice-read-digit-2 c = search needs
 
-nibble-requires-2 : tie.Need-nibble-requires-2 Inv-loop μ-loop
-nibble-requires-2 c κs = search needs
+digit-requires-2 : tie.Need-digit-requires-2 Inv-loop μ-loop
+digit-requires-2 c κs = search needs
 
 mul-dst : tie.Need-mul-dst Inv-loop μ-loop
 mul-dst c = search needs
@@ -60,7 +60,7 @@ loop-less : tie.Need-loop-less Inv-loop μ-loop
 loop-less c = search needs
 
 loop-again : tie.Need-loop-again Inv-loop μ-loop
-loop-again c = again (c .before .before .before .before .before .before .before .before .loop .inv) _ _ (omega (arith, c .before .before .before .before .before .before .before .loop-test .taken, c .before .before .before .before .before .before .before .before .loop .inv .same-length)) (omega (arith, c .before .before .before .before .before .before .if1 .left, c .before .before .before .before .before .before .before .before .loop .inv .inside)) (c .before .before .before .before .nibble .ensures) (c .before .before .nibble2 .ensures) (omega (arith, c .before .if2 .left)) (omega (arith, c .if3 .left))
+loop-again c = again (c .before .before .before .before .before .before .before .before .loop .inv) _ _ (omega (arith, c .before .before .before .before .before .before .before .loop-test .taken, c .before .before .before .before .before .before .before .before .loop .inv .same-length)) (omega (arith, c .before .before .before .before .before .before .if1 .left, c .before .before .before .before .before .before .before .before .loop .inv .inside)) (c .before .before .before .before .digit .ensures) (c .before .before .digit2 .ensures) (omega (arith, c .before .if2 .left)) (omega (arith, c .if3 .left))
 
 same-length : tie.Need-same-length Inv-loop μ-loop
 same-length c = search needs
@@ -78,13 +78,13 @@ same-length-3 : tie.Need-same-length-3 Inv-loop μ-loop
 same-length-3 c = search needs
 
 returns-3 : tie.Need-returns-3 Inv-loop μ-loop
-returns-3 c = first-ends (c .before .before .before .before .before .before .before .loop .inv) (omega (arith, c .before .before .before .before .before .before .loop-test .taken, c .before .before .before .before .before .before .before .loop .inv .same-length)) (omega (arith, c .before .before .before .before .before .if1 .left, c .before .before .before .before .before .before .before .loop .inv .inside)) _ (c .before .before .before .nibble .ensures) (c .if2 .taken)
+returns-3 c = first-ends (c .before .before .before .before .before .before .before .loop .inv) (omega (arith, c .before .before .before .before .before .before .loop-test .taken, c .before .before .before .before .before .before .before .loop .inv .same-length)) (omega (arith, c .before .before .before .before .before .if1 .left, c .before .before .before .before .before .before .before .loop .inv .inside)) _ (c .before .before .before .digit .ensures) (c .if2 .taken)
 
 same-length-4 : tie.Need-same-length-4 Inv-loop μ-loop
 same-length-4 c = search needs
 
 returns-4 : tie.Need-returns-4 Inv-loop μ-loop
-returns-4 c = second-ends (c .before .before .before .before .before .before .before .before .loop .inv) (omega (arith, c .before .before .before .before .before .before .before .loop-test .taken, c .before .before .before .before .before .before .before .before .loop .inv .same-length)) (omega (arith, c .before .before .before .before .before .before .if1 .left, c .before .before .before .before .before .before .before .before .loop .inv .inside)) _ (c .before .before .nibble2 .ensures) (c .if3 .taken)
+returns-4 c = second-ends (c .before .before .before .before .before .before .before .before .loop .inv) (omega (arith, c .before .before .before .before .before .before .before .loop-test .taken, c .before .before .before .before .before .before .before .before .loop .inv .same-length)) (omega (arith, c .before .before .before .before .before .before .if1 .left, c .before .before .before .before .before .before .before .before .loop .inv .inside)) _ (c .before .before .digit2 .ensures) (c .if3 .taken)
 
 pub unhex-spec : {M : Type 1} → statement M
 unhex-spec =
@@ -95,13 +95,13 @@ unhex-spec =
     loop-holds
     sub-if1
     add-if1
-    add-nibble
-    shared-slice-read-nibble
-    nibble-requires
-    add-nibble-2
-    add-nibble-3
-    shared-slice-read-nibble-2
-    nibble-requires-2
+    add-digit
+    shared-slice-read-digit
+    digit-requires
+    add-digit-2
+    add-digit-3
+    shared-slice-read-digit-2
+    digit-requires-2
     mul-dst
     add-dst
     slice-write-dst
