@@ -1,22 +1,10 @@
 // Runs the lexer on document 01's scripts that are its matter and on the edges of its rules, and writes for each: the script, number, place and tokens, then each token's code, number and place. At the end, the room that some scripts need.
 use lex::Ample;
 use lex::Answer;
-
-fn word(x: u32) -> u64 {
-    x as u64
-}
-
-fn long(x: usize) -> u64 {
-    x as u64
-}
-
-fn space() {
-    io::write_all(1, b" ");
-}
-
-fn line() {
-    io::write_all(1, b"\n");
-}
+use printing::line;
+use printing::long;
+use printing::space;
+use printing::word;
 
 // Number, place and tokens: document 01's three numbers of an answer.
 fn header(number: u32, place: usize, tokens: usize) {

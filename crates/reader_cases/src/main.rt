@@ -5,39 +5,21 @@
 // The stored output is not taken from this program: tests/reader_cases.py writes it with a reader of its own, and finds by
 // trying the least room of each table with which a script's answer stays the same.
 use decode::Answer;
-
-fn word(x: u32) -> u64 {
-    x as u64
-}
-
-fn long(x: usize) -> u64 {
-    x as u64
-}
-
-fn space() {
-    io::write_all(1, b" ");
-}
-
-fn line() {
-    io::write_all(1, b"\n");
-}
+use printing::line;
+use printing::space;
+use printing::word;
 
 // The seven numbers of an answer.
 fn header(a: Answer) {
-    io::print_hex(1, word(a.number), 2);
-    space();
-    io::print_hex(1, word(a.reason), 2);
-    space();
-    io::print_hex(1, long(a.place), 8);
-    space();
-    io::print_hex(1, long(a.tokens), 8);
-    space();
-    io::print_hex(1, long(a.steps), 8);
-    space();
-    io::print_hex(1, long(a.nodes), 8);
-    space();
-    io::print_hex(1, long(a.keys), 8);
-    line();
+    printing::header(
+        a.number,
+        a.reason,
+        a.place,
+        a.tokens,
+        a.steps,
+        a.nodes,
+        a.keys,
+    );
 }
 
 // Every cell of a table.

@@ -13,44 +13,23 @@ use cursor::NextToken;
 use decode::Answer;
 use encode::Encoded;
 use judge::Node;
-
-fn word(x: u32) -> u64 {
-    x as u64
-}
-
-fn long(x: usize) -> u64 {
-    x as u64
-}
-
-fn space() {
-    io::write_all(1, b" ");
-}
-
-fn line() {
-    io::write_all(1, b"\n");
-}
-
-fn cell(x: u32) {
-    space();
-    io::print_hex(1, word(x), 1);
-}
+use printing::cell;
+use printing::line;
+use printing::long;
+use printing::space;
+use printing::word;
 
 // The seven numbers of an answer.
 fn header(a: Answer) {
-    io::print_hex(1, word(a.number), 2);
-    space();
-    io::print_hex(1, word(a.reason), 2);
-    space();
-    io::print_hex(1, long(a.place), 8);
-    space();
-    io::print_hex(1, long(a.tokens), 8);
-    space();
-    io::print_hex(1, long(a.steps), 8);
-    space();
-    io::print_hex(1, long(a.nodes), 8);
-    space();
-    io::print_hex(1, long(a.keys), 8);
-    line();
+    printing::header(
+        a.number,
+        a.reason,
+        a.place,
+        a.tokens,
+        a.steps,
+        a.nodes,
+        a.keys,
+    );
 }
 
 // The token that is next is looked at, taken, put back and taken again.

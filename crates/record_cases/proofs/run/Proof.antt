@@ -9,11 +9,9 @@ use Rattle.record_cases.proofs.run.Reads as reads
 use Rattle.record_cases.proofs.run.Lts as lts
 use Rattle.io.proofs.print_hex.Reads as print-hex-reads
 use Rattle.io.proofs.write_all.Reads as write-all-reads
-use Rattle.record_cases.proofs.line.Reads as line-reads
 use Rattle.record_cases.proofs.show_reading.Reads as show-reading-reads
 use Rattle.record_cases.proofs.show_records.Reads as show-records-reads
 use Rattle.record_cases.proofs.show_written.Reads as show-written-reads
-use Rattle.record_cases.proofs.word.Reads as word-reads
 
 -- src/main.rt:239:22
 word-requires : tie.Need-word-requires

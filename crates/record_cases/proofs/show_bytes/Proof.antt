@@ -7,7 +7,6 @@ use Rattle.record_cases.proofs.show_bytes.Reads as reads
 use Rattle.record_cases.proofs.show_bytes.Lts as lts
 use Rattle.io.proofs.print_hex.Reads as print-hex-reads
 use Rattle.record_cases.proofs.byte.Reads as byte-reads
-use Rattle.record_cases.proofs.space.Reads as space-reads
 
 abbrev Inv-loop : tie.InvT-loop
 Inv-loop out size i₀ i = Unit {0}

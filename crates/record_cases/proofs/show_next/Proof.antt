@@ -12,10 +12,6 @@ use Rattle.cursor.proofs.put_back.Reads as put-back-reads
 use Rattle.cursor.proofs.take.Reads as take-reads
 use Rattle.io.proofs.print_hex.Reads as print-hex-reads
 use Rattle.io.proofs.write_all.Reads as write-all-reads
-use Rattle.record_cases.proofs.cell.Reads as cell-reads
-use Rattle.record_cases.proofs.line.Reads as line-reads
-use Rattle.record_cases.proofs.long.Reads as long-reads
-use Rattle.record_cases.proofs.space.Reads as space-reads
 
 -- src/main.rt:95:9
 look-requires : tie.Need-look-requires
