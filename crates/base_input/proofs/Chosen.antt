@@ -7,7 +7,7 @@ use borrow.Author.Tests.{not-true, not-false, eq-eqb, ne-eqb}
 use Rattle.tables.specs.Choose.{pick}
 use Rattle.base_input.specs.declared.Input.{Input}
 use Rattle.base_input.specs.declared.Input.the-variants.{Zero, One, Any, OneNonZero, AnyNonZero}
-use Rattle.base_input.specs.Inputs.{ifZero, orInput, orElseInput, eitherInput}
+use Rattle.base_input.specs.Inputs.{andInput, ifZero, orInput, orElseInput, eitherInput}
 
 -- `if !x { .. }` taken, with x what the definition tests
 pub fails : {x b : Bool} → not x ≡ true → x ≡ b → b ≡ false
@@ -44,3 +44,10 @@ skips x y h g = g ∙ ap (λ (c : Bool). pick c x y) (sym h)
 -- an input that isn't Zero: or_b's rule is or_d's
 pub or-else-is : (k a b : Input) {r : Input} → a ≡ k → orInput k b ≡ orElseInput k b → r ≡ orElseInput a b → r ≡ orInput a b
 or-else-is k a b e h g = g ∙ ap (λ (x : Input). orElseInput x b) e ∙ sym h ∙ ap (λ (x : Input). orInput x b) (sym e)
+
+-- a row of and_b's table that doesn't look at the second input, and a cell of one that does
+pub and-row : (x : Input) {a r : Input} (b : Input) → a ≡ x → r ≡ andInput x b → r ≡ andInput a b
+and-row x b e h = h ∙ ap (λ (k : Input). andInput k b) (sym e)
+
+pub and-cell : (x y : Input) {a b r : Input} → a ≡ x → b ≡ y → r ≡ andInput x y → r ≡ andInput a b
+and-cell x y {a} {b} e f h = and-row x b e (h ∙ ap (andInput x) (sym f))
