@@ -1,10 +1,10 @@
 // What the desk does between a read and a write: bytes of the input in, text for the output out (document 01, section "Program").
 //
 // No function here makes a system call. A caller reads some bytes of the input, has them taken by `receive`, and then calls `turn` and
-// writes what it laid out, again and again until a turn lays out nothing. What is written is crossed off by `written`, and no turn is taken
-// while bytes of the one before it wait. The contracts settle the rest: what is laid out, turn after turn,
-// is what Program.antt says of the whole input, however it came cut into parts (ProgramLaws), and the line that a part leaves open goes on
-// with the next.
+// writes what it laid out, again and again until a turn lays out nothing. What a write took is crossed off by `written`, and by nothing else;
+// no turn is taken while bytes of the one before it wait. The contracts settle the rest: what is laid out, turn after turn, is what
+// Program.antt says of the whole input, however it came cut into parts (ProgramLaws), and the line that a part leaves open goes on with the
+// next.
 ghost use mathlib.Core.Path.{_≡_};
 ghost use mathlib.Core.List.{List, _++_};
 ghost use Prim.Native.Nat.{ℕ, _-_, _≤_, _<_};
@@ -12,6 +12,7 @@ ghost use lib.ListN.{length, take, drop};
 ghost use Rattle.hex_line.specs.Feeding.{fed, toldIn, leftBy};
 ghost use Rattle.reply.specs.Program.{textsOf};
 ghost use Rattle.clerk.specs.Owed.{lineCount, restOf, owed, leaves, due, started, laid, Ready, Answered, Says};
+use calls::Wrote;
 use hex_line::Line;
 use listing::Header;
 
@@ -154,13 +155,13 @@ pub fn turn(
     held
 }
 
-// The same hand, after so many more of the bytes that wait at the front of the output have been written.
-pub fn written(hand: Hand, count: usize) -> Hand
-    requires { ⌜ count ≤ hand .used ⌝ }
-    ensures { λ r. ⌜ r ≡ laid hand (hand .next) (hand .used - count) ⌝ }
+// The same hand, after a write took so many more of the bytes that wait at the front of the output.
+pub fn written(hand: Hand, wrote: Wrote) -> Hand
+    requires { ⌜ wrote .n ≤ hand .used ⌝ }
+    ensures { λ r. ⌜ r ≡ laid hand (hand .next) (hand .used - wrote .n) ⌝ }
 {
     let next = hand.next;
-    let left = hand.used - count;
+    let left = hand.used - calls::taken(wrote);
     moved(hand, next, left)
 }
 

@@ -5,8 +5,15 @@ use Prim.Native.Nat.{ℕ, _+_, _-_, _≤_, _<_, min}
 use native.Mathlib.Omega.{arith}
 use lib.ListN.{length, take, drop, length-append, length-take, drop-of-length-le}
 use lib.Seq.{length-take-le}
+use lib.Dec.{eqb}
+use mathlib.Core.Bool.{true, false}
+use borrow.Author.Tests.{eqb-false}
+use Rattle.calls.specs.declared.Wrote.{Wrote}
 use Rattle.hex_line.specs.Feeding.{Fed, fed, leftBy}
 use Rattle.clerk.specs.declared.Hand.{Hand}
+use Rattle.desk.specs.declared.Sent.{Sent}
+use Rattle.desk.specs.declared.Sent.the-variants.{All, Failed}
+use Rattle.desk.specs.Stops.{Sends}
 use Rattle.clerk.specs.Owed.{owed, leaves, laid, Answered}
 
 -- what `turn` ensures
@@ -27,13 +34,24 @@ pub record Sending (n : ℕ) (part text : List ℕ) (left : Fed) (hand : Hand) (
   pub written : List ℕ
   pub whole : written ++ (take (hand .used) out ++ owed hand part script nodes keys) ≡ text
 
--- a hand from which bytes were crossed off owes and leaves what it did
-pub crossed-off : (n : ℕ) (part : List ℕ) (hand left : Hand) (script nodes keys : List ℕ) (r : Hand) (script₁ nodes₁ keys₁ out₁ : List ℕ) → left ≡ laid hand (hand .next) (left .used)
+-- how writing went, told of the case
+pub all-sent : (P : Hand → Type 0) (r : Sent) {hand : Hand} → r ≡ All hand → Sends r P → P hand
+all-sent P r e s = subst (λ (x : Sent). Sends x P) e s
+
+pub not-sent : (P : Hand → Type 0) (r : Sent) {wrote : Wrote} → r ≡ Failed wrote → Sends r P → wrote .failed ≡ true
+not-sent P r e s = subst (λ (x : Sent). Sends x P) e s
+
+-- nothing of what a turn laid out waits any more
+abbrev pub CrossedOff : Hand → Hand → Type 0
+CrossedOff hand left = left ≡ laid hand (hand .next) 0
+
+-- a hand from which all bytes that waited were crossed off owes and leaves what it did
+pub crossed-off : (n : ℕ) (part : List ℕ) (hand left : Hand) (script nodes keys : List ℕ) (r : Hand) (script₁ nodes₁ keys₁ out₁ : List ℕ) → CrossedOff hand left
     → Turns n part left script nodes keys r script₁ nodes₁ keys₁ out₁ → Turns n part hand script nodes keys r script₁ nodes₁ keys₁ out₁
 crossed-off n part hand left script nodes keys r script₁ nodes₁ keys₁ out₁ e t = subst (λ (h : Hand). Turns n part h script nodes keys r script₁ nodes₁ keys₁ out₁) e t
 
-pub still-within : (n : ℕ) (hand left : Hand) → left ≡ laid hand (hand .next) (left .used) → hand .at ≤ n → left .at ≤ n
-still-within n hand left e h = subst (λ (x : Hand). x .at ≤ n) (sym e) h
+pub still-within : (n : ℕ) (hand left : Hand) → CrossedOff hand left → hand .at ≤ n → (left .at ≤ n) × (left .used ≡ 0)
+still-within n hand left e h = (subst (λ (x : Hand). x .at ≤ n) (sym e) h, ap (λ (x : Hand). x .used) e)
 
 -- after the first turn
 pub begun : (n : ℕ) (part : List ℕ) (hand : Hand) (script nodes keys : List ℕ) (r : Hand) (script₁ nodes₁ keys₁ out₁ : List ℕ)
@@ -78,9 +96,23 @@ sent n input text left hand script nodes keys out s u =
     let d : drop (hand .at) (take n input) ≡ [] = drop-of-length-le (take n input) {i = hand .at} (omega (arith, a .1, m)) in
     ap (leftBy (fed (hand .line) script)) (sym d) ∙ s .leaving
 
--- what one write crosses off, and what a second one crosses off behind it
-pub crossed : (hand r : Hand) (count : ℕ) → r ≡ laid hand (hand .next) (hand .used - count) → (r ≡ laid hand (hand .next) (r .used)) × (r .used ≤ hand .used)
-crossed hand r count e = let u : r .used ≡ hand .used - count = ap (λ (h : Hand). h .used) e in (e ∙ ap (laid hand (hand .next)) (sym u), omega (arith, u))
+-- What is left of a turn while its bytes are written: the same hand, with fewer bytes that wait.
+abbrev pub Crossed : Hand → Hand → Type 0
+Crossed hand left = (left ≡ laid hand (hand .next) (left .used)) × (left .used ≤ hand .used)
 
-pub crossed-again : (hand held r : Hand) → held ≡ laid hand (hand .next) (held .used) → r ≡ laid held (held .next) (r .used) → r ≡ laid hand (hand .next) (r .used)
-crossed-again hand held r e q = q ∙ ap (λ (h : Hand). laid h (h .next) (r .used)) e
+-- one more write of which some bytes were taken
+pub crossed : (hand left r : Hand) (count : ℕ) → Crossed hand left → r ≡ laid left (left .next) (left .used - count) → Crossed hand r
+crossed hand left r count s e =
+    let u : r .used ≡ left .used - count = ap (λ (h : Hand). h .used) e in
+    (e ∙ ap (λ (h : Hand). laid h (h .next) (left .used - count)) (s .0) ∙ ap (laid hand (hand .next)) (sym u), omega (arith, u, s .1))
+
+pub fewer-wait : (left r : Hand) (wrote : Wrote) → 0 < left .used → wrote .failed ≡ eqb (wrote .n) 0 → wrote .failed ≡ false → r ≡ laid left (left .next) (left .used - wrote .n)
+    → r .used < left .used
+fewer-wait left r wrote h f t e =
+    let u : r .used ≡ left .used - wrote .n = ap (λ (x : Hand). x .used) e in
+    let some : _ = eqb-false (wrote .n) 0 (sym f ∙ t) in
+    omega (arith, u, h, some)
+
+-- none waits any more
+pub all-crossed : (hand left : Hand) → Crossed hand left → left .used ≤ 0 → CrossedOff hand left
+all-crossed hand left s z = let u : left .used ≡ 0 = omega (arith, z) in s .0 ∙ ap (laid hand (hand .next)) u

@@ -6,17 +6,17 @@ use borrow.Author.Needs.{needs}
 use Rattle.desk.proofs.answer_part.Statement.{statement}
 use Rattle.desk.proofs.answer_part.Tie as tie
 
-next-requires : tie.Need-next-requires
-next-requires c κs = search needs
+size-requires : tie.Need-size-requires
+size-requires c κs = search needs
 
 receive-requires : tie.Need-receive-requires
 receive-requires c κs = search needs
 
 write-out-requires : tie.Need-write-out-requires
-write-out-requires c κs = (c .before .before .before .before .before .before .before .before .before .before .before .before .before .next .ensures .0, omega (arith, c .before .before .before .before .before .before .before .receive .ensures .0), c .before .before .before .before .before .before .before .receive .ensures .1)
+write-out-requires c κs = (omega (arith, c .before .before .before .before .before .before .before .before .before .before .before .before .size .ensures, c .before .before .before .before .before .before .before .before .before .before .before .before .before .pre .0), omega (arith, c .before .before .before .before .before .before .receive .ensures .0), c .before .before .before .before .before .before .receive .ensures .1)
 
 returns : tie.Need-returns
-returns c = part-sent (c .before .before .before .before .before .before .before .before .before .before .before .before .before .before .before .before .args .line) (c .before .before .before .before .before .before .before .before .before .before .before .before .before .before .next .result) (c .before .before .before .before .before .before .before .before .before .before .before .before .before .before .next .last .0) (now (c .before .before .before .before .before .before .before .before .before .before .before .before .before .before .before .before .args .script)) (c .before .before .before .before .before .before .before .before .receive .last .1 .1 .1 .1 .0) (c .before .before .before .before .before .before .before .before .receive .last .1 .1 .1 .1 .1 .0) (c .before .before .before .before .before .before .before .before .receive .result) (c .write-out .result .line) (c .write-out .last .1 .1 .1 .0) (c .write-out .result .n) (c .before .before .before .before .before .before .before .before .before .before .before .before .before .before .next .ensures .0) (c .before .before .before .before .before .before .before .before .before .before .before .before .before .before .next .ensures .1) (c .before .before .before .before .before .before .before .before .receive .ensures .2) (c .write-out .ensures)
+returns c = part-sent (c .before .before .before .before .before .before .before .before .before .before .before .before .before .before .args .line) (c .before .before .before .before .before .before .before .before .before .before .before .before .before .before .args .part) (c .before .before .before .before .before .before .before .before .before .before .before .before .before .size .result) (now (c .before .before .before .before .before .before .before .before .before .before .before .before .before .before .args .input)) (now (c .before .before .before .before .before .before .before .before .before .before .before .before .before .before .args .script)) _ _ (c .before .before .before .before .before .before .before .receive .result) _ (c .write-out .result) (c .before .before .before .before .before .before .before .before .before .before .before .before .before .size .ensures) (c .before .before .before .before .before .before .before .before .before .before .before .before .before .before .pre .1) (c .before .before .before .before .before .before .before .receive .ensures .2) (c .write-out .ensures)
 
 pub answer-part-spec : {M : Type 1} → statement M
-answer-part-spec = tie.close (tie.spec next-requires receive-requires write-out-requires returns)
+answer-part-spec = tie.close (tie.spec size-requires receive-requires write-out-requires returns)

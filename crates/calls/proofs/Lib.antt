@@ -1,0 +1,2 @@
+-- Laws that the proofs of the two calls cite.
+pub mod CallLaws

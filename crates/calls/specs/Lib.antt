@@ -1,0 +1,2 @@
+-- How often the desk may still read.
+pub mod Reads

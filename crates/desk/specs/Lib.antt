@@ -1,0 +1,2 @@
+-- Where the desk stops.
+pub mod Stops
