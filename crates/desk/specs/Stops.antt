@@ -1,4 +1,4 @@
--- Where the desk stops: at the end of the input, or at a write that failed (document 01, section "Program": any input is answered to its end). A `Part` and a `Wrote` are made by the system calls alone. Assumes nothing.
+-- Where the desk stops: at the end of the input, or at a write that failed (document 01, section "Program"). A `Part` and a `Wrote` are made by the system calls alone. Assumes nothing.
 use mathlib.Core.Path.{_≡_}
 use mathlib.Core.Bool.{true}
 use Rattle.clerk.specs.declared.Hand.{Hand}
