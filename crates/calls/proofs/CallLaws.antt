@@ -28,7 +28,7 @@ none-left last r e t =
     omega (arith, g, z)
 
 -- the end of the input, whatever was read before
-pub at-the-end : (last r : Part) (most : ℕ) → last .ended ≡ false → (r .n ≡ 0) × (r .ended ≡ true)
+pub at-the-end : (last r : Part) (most : ℕ) → last .ended ≡ false → (r .n ≡ 0) × (r .ended ≡ true) × (r .reads ≡ 0)
     → (r .n ≤ 4096) × (r .n ≤ most) × (r .ended ≡ eqb (r .n) 0) × (readsLeft r < readsLeft last)
 at-the-end last r most e t =
     (none-moved (r .n) (r .ended) 4096 (t .0) (t .1) .0, none-moved (r .n) (r .ended) most (t .0) (t .1) .0, none-moved (r .n) (r .ended) most (t .0) (t .1) .1, none-left last r e (t .1))

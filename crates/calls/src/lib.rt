@@ -38,7 +38,7 @@ pub struct Wrote {
 
 // Before the first read.
 pub fn begin() -> Part
-    ensures { λ r. ⌜ r .ended ≡ false ⌝ }
+    ensures { λ r. ⌜ (r .n ≡ 0) × (r .ended ≡ false) × (r .reads ≡ 18446744073709551615) ⌝ }
 {
     Part {
         n: 0,
@@ -61,7 +61,7 @@ pub fn has_ended(part: Part) -> bool
 
 // The input has ended.
 fn end() -> Part
-    ensures { λ r. ⌜ (r .n ≡ 0) × (r .ended ≡ true) ⌝ }
+    ensures { λ r. ⌜ (r .n ≡ 0) × (r .ended ≡ true) × (r .reads ≡ 0) ⌝ }
 {
     Part {
         n: 0,
