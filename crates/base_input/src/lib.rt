@@ -1,5 +1,7 @@
 // Bases and inputs, of which a correctness type is made: the first part of a port of miniscript 13.2.0's
 // src/miniscript/types/correctness.rs. Each two-input table is a function of its own.
+#![tactic(auto)]
+
 ghost use Rattle.std.specs.Prelude.{◌≡◌, ◌&&◌, ◌||◌, eqb};
 ghost use Rattle.tables.specs.Choose.{pick};
 ghost use Rattle.base_input.specs.Numbers.{base_number, base_of, input_number, input_of};
@@ -7,7 +9,7 @@ ghost use Rattle.base_input.specs.Tests.{is_b, is_k, is_v, is_w, equal_bkv, is_z
 ghost use Rattle.base_input.specs.Inputs.{and_input, count_only, or_else_input, or_input, either_input, and_or_input, is_subtype_input};
 
 // Where a fragment can go.
-#[derive(Drop)]
+#[derive(Clone, Copy)]
 pub enum Base {
     // Takes its inputs from the top of the stack; leaves nonzero if satisfied, else 0.
     B,
@@ -20,7 +22,7 @@ pub enum Base {
 }
 
 // How many stack items a fragment takes, and what is known of the top one.
-#[derive(Drop)]
+#[derive(Clone, Copy)]
 pub enum Input {
     Zero,
     One,

@@ -7,13 +7,14 @@
 // caller whose contract asks for a part at which the input ended, or for a write that failed, has met one.
 //
 // A read or a write that a signal interrupts is tried again. One that fails is told on standard error with the system's reason.
+#![tactic(auto)]
 ghost use Rattle.std.specs.Prelude.{◌≡◌, true, false, ◌≤◌, ◌<◌, eqb, length};
 ghost use Rattle.calls.specs.Reads.{reads_left};
 
 use libc::{EINTR, STDIN_FILENO, STDOUT_FILENO};
 
 // What a read gave.
-#[derive(Drop)]
+#[derive(Clone, Copy)]
 pub struct Part {
     // How many bytes, at the front of the lent input.
     n: usize,
@@ -25,7 +26,7 @@ pub struct Part {
 }
 
 // What a write took.
-#[derive(Drop)]
+#[derive(Clone, Copy)]
 pub struct Wrote {
     // How many of the bytes that it was lent.
     n: usize,

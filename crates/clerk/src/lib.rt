@@ -5,6 +5,7 @@
 // no turn is taken while bytes of the one before it wait. The contracts settle the rest: what is laid out, turn after turn, is what
 // Program.antt says of the whole input, however it came cut into parts (ProgramLaws), and the line that a part leaves open goes on with the
 // next.
+#![tactic(auto)]
 ghost use Rattle.std.specs.Prelude.{◌≡◌, List, ◌++◌, ℕ, ◌-◌, ◌≤◌, ◌<◌, length, take, drop};
 ghost use Rattle.hex_line.specs.Feeding.{fed, told_in, left_by};
 ghost use Rattle.reply.specs.Program.{texts_of};
@@ -15,7 +16,7 @@ use hex_line::Line;
 use listing::Header;
 
 // What the clerk has in hand while a part of the input is answered.
-#[derive(Drop)]
+#[derive(Clone, Copy)]
 pub struct Hand {
     // How far the line at hand has been read.
     pub line: Line,

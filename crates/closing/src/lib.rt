@@ -2,6 +2,7 @@
 // and 19. The finished trees before a node are found by their roots' sizes, as `judge` finds them, so nothing is
 // written, and a node is looked at by its own check and by its parent's alone. Work is linear: a multi or multi_a that
 // passes names at most 999 keys.
+#![tactic(auto)]
 ghost use Rattle.std.specs.Prelude.{◌≡◌, ◌+◌, ◌*◌, ◌≤◌, ◌<◌, eqb, length};
 ghost use Rattle.base_input.specs.Numbers.{bool_number};
 ghost use Rattle.correctness.specs.Rules.{threshold};
@@ -18,7 +19,7 @@ use judge::{Node, cast, combine, leaf_of, reason, size_at, type_at};
 use node_shape::{Shape, Told, child_count, in_range, shape_of, unused_are_zero, value_refusal};
 
 // The refusal's number and reason, both 0 if the table holds one tree.
-#[derive(Drop)]
+#[derive(Clone, Copy)]
 pub struct Verdict {
     pub number: u32,
     pub reason: u32,

@@ -1,5 +1,6 @@
 // The correctness types: a port of miniscript 13.2.0's src/miniscript/types/correctness.rs. Each rule is one short
 // function, its checks in that file's order. A rule's contract is one equation with its definition in specs/Rules.
+#![tactic(auto)]
 ghost use Rattle.std.specs.Prelude.{◌≡◌};
 ghost use Rattle.correctness.specs.Reasons.{reason_of};
 ghost use Rattle.correctness.specs.Rules.{leaf_type, no_children, cast_alt, cast_swap, cast_check, cast_dupif, cast_verify, cast_nonzero, cast_zeronotequal, cast_true, cast_or_i_false, and_b, and_v, or_b, or_d, or_c, or_i, and_or, threshold_child, is_subtype};
@@ -7,7 +8,7 @@ ghost use Rattle.correctness.specs.Rules.{leaf_type, no_children, cast_alt, cast
 pub use base_input::{Base, Input};
 use base_input::{both, either};
 
-#[derive(Drop)]
+#[derive(Clone, Copy)]
 pub struct Correctness {
     pub base: Base,
     pub input: Input,
@@ -18,7 +19,7 @@ pub struct Correctness {
 }
 
 // Why a rule refuses. The crate's names and order.
-#[derive(Drop)]
+#[derive(Clone, Copy)]
 pub enum ErrorKind {
     NonZeroDupIf,
     LeftNotDissatisfiable,
@@ -35,14 +36,14 @@ pub enum ErrorKind {
 }
 
 // What a rule answers: the type, or why there is none.
-#[derive(Drop)]
+#[derive(Clone, Copy)]
 pub enum Typed {
     Is(Correctness),
     Not(ErrorKind),
 }
 
 // The leaves, by what type they have: after and older are Time, the four hashes Hash.
-#[derive(Drop)]
+#[derive(Clone, Copy)]
 pub enum Leaf {
     True,
     False,

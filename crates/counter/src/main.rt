@@ -1,4 +1,5 @@
 // The desk on a stored list: document 01's "Scripts to try at the counter" (crates/counter/cases).
+#![tactic(auto)]
 fn main() {
     desk::run();
 }

@@ -1,4 +1,5 @@
 // The desk on scripts that the crate's own text has answered: oracle/sample.txt, made into stdin and stdout by tests/crate_answers.py.
+#![tactic(auto)]
 fn main() {
     desk::run();
 }

@@ -1,23 +1,25 @@
 // The token cursor: one record, lent to `next`, `peek` and `un_next`, in place of lex.rs's TokenIter. Tokens are read from
 // the last to the first: so many are `left`, and the next one is the last of them. Each of the three is thin over functions
 // on the token table and a number; `take`, `look` and `put_back` hold a cursor and lend it, for callers who have a number.
+#![tactic(auto)]
+
 ghost use Rattle.std.specs.Prelude.{◌≡◌, ◌+◌, ◌-◌, ◌*◌, ◌≤◌, ◌<◌, ◌^◌, length};
 ghost use Rattle.cursor.specs.Reading.{next_of, took_of};
 
-#[derive(Drop)]
+#[derive(Clone, Copy)]
 pub struct Cursor {
     pub left: usize,
 }
 
 // The next token, or none is left.
-#[derive(Drop)]
+#[derive(Clone, Copy)]
 pub enum NextToken {
     Nothing,
     Token { code: u32, number: u32, place: u32 },
 }
 
 // A token that was taken, and how many are left after it.
-#[derive(Drop)]
+#[derive(Clone, Copy)]
 pub struct Took {
     pub token: NextToken,
     pub left: usize,

@@ -1,4 +1,5 @@
 // The reader that intake calls: a script lexed, decoded (crate `run`), and the tables left as document 01 has them.
+#![tactic(auto)]
 ghost use Rattle.std.specs.Prelude.{◌≡◌, ◌*◌, ◌/◌, ◌≤◌, length};
 ghost use Rattle.tables.specs.Tables.{zeros};
 ghost use Rattle.lex.specs.declared.Answer.TheVariants as lexing;
@@ -10,7 +11,7 @@ ghost use Rattle.decode.specs.Read.{answer_of, lengths_of, outcome_at, refused_a
 // What the reader answers: document 01's number and reason, 0 where it accepts; the place; and how many tokens, steps,
 // nodes and keys there are.
 #[repr(C)]
-#[derive(Drop)]
+#[derive(Clone, Copy)]
 pub struct Answer {
     pub number: u32,
     pub reason: u32,

@@ -20,6 +20,7 @@
 //   output                                   8,192
 //   os::fail, while a failure is told        4,160
 //   in all                                  56,584, under 64 KiB (65,536)
+#![tactic(auto)]
 ghost use Rattle.std.specs.Prelude.{◌≡◌, true, false, ◌≤◌, ◌<◌, length, take};
 ghost use Rattle.hex_line.specs.Feeding.{fed, left_by};
 ghost use Rattle.clerk.specs.declared.Hand.{Hand};
@@ -31,7 +32,7 @@ use clerk::Hand;
 use hex_line::Line;
 
 // Why the desk stopped.
-#[derive(Drop)]
+#[derive(Clone, Copy)]
 pub enum End {
     // The input has ended.
     Input(Part),
@@ -40,7 +41,7 @@ pub enum End {
 }
 
 // How writing went.
-#[derive(Drop)]
+#[derive(Clone, Copy)]
 enum Sent {
     // Nothing waits any more: the hand as it is now.
     All(Hand),

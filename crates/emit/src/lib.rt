@@ -1,5 +1,6 @@
 // Writing lexemes one after the other: each as one instruction, in its shortest form, and a VERIFY together with the opcode
 // before it where a fused form exists. Only the last byte written is ever looked back at.
+#![tactic(auto)]
 ghost use Rattle.std.specs.Prelude.{◌≡◌, ◌+◌, ◌≤◌, length, take, drop};
 ghost use Rattle.tables.specs.Tables.{put_at};
 ghost use Rattle.lex.specs.Token.{op, num, push, data_at};
@@ -9,7 +10,7 @@ ghost use Rattle.emit.specs.Emission.{fusing, digit_count, low_bytes, inked, pen
 use instruction::token;
 
 // How far the output has been written: so many bytes, and the code of the last opcode, 0 where the last lexeme was none.
-#[derive(Drop)]
+#[derive(Clone, Copy)]
 pub struct Pen {
     pub at: usize,
     pub last: u32,

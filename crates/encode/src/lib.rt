@@ -1,6 +1,7 @@
 // The encoder: from a node table back to the script (document 01, section "Encoder"). All is decided before anything is
 // written: the checks (crate `closing`), the length (crate `script_length`), the room. Then one pass writes the bytes
 // (crate `write_script`).
+#![tactic(auto)]
 ghost use Rattle.std.specs.Prelude.{◌≡◌, ◌≤◌, ◌<◌, length};
 ghost use Rattle.encoding.specs.Encoding.{node_count, encoding_of};
 ghost use Rattle.encode.specs.Encode.{answer, answer_of, outcome_at};
@@ -15,7 +16,7 @@ use writes::earlier;
 // What the encoder answers: document 01's number and reason, 0 where it accepts; the place, which is always 0; and how
 // many bytes it wrote.
 #[repr(C)]
-#[derive(Drop)]
+#[derive(Clone, Copy)]
 pub struct Encoded {
     pub number: u32,
     pub reason: u32,

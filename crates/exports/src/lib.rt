@@ -1,6 +1,7 @@
 // The entries for callers in C and Rust, under plain names with the prefix `phagdrulis_`: numbers and slices in, one struct that both
 // sides lay out the same out. To such a caller a slice is a pointer and a length (include/phagdrulis.h). No entry asks anything of its
 // arguments: the pointers and lengths themselves are all that a caller can get wrong.
+#![tactic(auto)]
 ghost use Rattle.std.specs.Prelude.{◌≡◌, length};
 ghost use Rattle.lex.specs.Room.{room_of};
 ghost use Rattle.standard.specs.Outcome.{outcome_of};
@@ -15,7 +16,7 @@ ghost use Rattle.exports.specs.Encodings.{encoded_answer, encoded_at, part_in};
 // What `phagdrulis_read` answers: document 01's number and reason, 0 where it accepts; the place; and how many tokens, steps, nodes
 // and keys there are.
 #[repr(C)]
-#[derive(Drop)]
+#[derive(Clone, Copy)]
 pub struct Answer {
     pub number: u32,
     pub reason: u32,
@@ -28,7 +29,7 @@ pub struct Answer {
 
 // What `phagdrulis_lex` answers: document 01's number and place, 0 where it accepts; and how many tokens there are.
 #[repr(C)]
-#[derive(Drop)]
+#[derive(Clone, Copy)]
 pub struct Lexed {
     pub number: u32,
     pub place: usize,
@@ -38,7 +39,7 @@ pub struct Lexed {
 // What `phagdrulis_room` answers: document 01's number and place, 0 where the script lexes; and the sizes that are ample for it, in
 // entries of each table.
 #[repr(C)]
-#[derive(Drop)]
+#[derive(Clone, Copy)]
 pub struct Room {
     pub number: u32,
     pub place: usize,
@@ -51,7 +52,7 @@ pub struct Room {
 // What `phagdrulis_encode` answers: document 01's number and reason, 0 where it accepts; the place, which is always 0; and how many
 // bytes it wrote.
 #[repr(C)]
-#[derive(Drop)]
+#[derive(Clone, Copy)]
 pub struct Encoded {
     pub number: u32,
     pub reason: u32,
@@ -61,7 +62,7 @@ pub struct Encoded {
 
 // What `phagdrulis_leaf_part` answers: where in the script the part starts, and how many bytes it has; both 0 where there is none.
 #[repr(C)]
-#[derive(Drop)]
+#[derive(Clone, Copy)]
 pub struct Part {
     pub start: usize,
     pub bytes: usize,

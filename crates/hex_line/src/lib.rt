@@ -1,4 +1,6 @@
 // What a line of hexadecimal means, read byte by byte, however long the line is: document 01, section "Program".
+#![tactic(auto)]
+
 ghost use Rattle.std.specs.Prelude.{◌≡◌, ◌+◌, ◌*◌, ◌%◌, min, take};
 ghost use Rattle.hex_line.specs.Digits.{digit_of};
 ghost use Rattle.hex_line.specs.Feeding.{fed, step, stopped, line_fed, ended, untouched};
@@ -7,7 +9,7 @@ ghost use Rattle.hex_line.specs.Feeding.{fed, step, stopped, line_fed, ended, un
 pub const SCRIPT_BYTES: usize = 520;
 
 // How far a line has been read. The script bytes themselves are in a buffer that the caller lends.
-#[derive(Drop)]
+#[derive(Clone, Copy)]
 pub enum Line {
     // Not a byte yet.
     Nothing,
@@ -22,7 +24,7 @@ pub enum Line {
 }
 
 // What a line means: document 01's number of a refusal, or a script to be read, so many bytes at the buffer's front.
-#[derive(Drop)]
+#[derive(Clone, Copy)]
 pub enum Meaning {
     Refused(u32),
     Script { kind: u32, size: usize },
@@ -81,7 +83,7 @@ pub fn feed(line: Line, byte: u8, script: &mut [u8; 520]) -> Line
 }
 
 // How far a line has been read, and where in the input the reading stopped.
-#[derive(Drop)]
+#[derive(Clone, Copy)]
 pub struct Stop {
     pub line: Line,
     pub at: usize,

@@ -1,4 +1,6 @@
 // One instruction of a script: lex.rs's table of cases, Bitcoin's minimal push rule and read_scriptint, with document 01's numbers.
+#![tactic(auto)]
+
 ghost use Rattle.std.specs.Prelude.{◌≡◌, [], ◌+◌, ◌*◌, ◌≤◌, ◌<◌, length, take, drop, get_or};
 ghost use Rattle.instruction.specs.Opcode.{op_of};
 ghost use Rattle.instruction.specs.Number.{little_endian, minimal, number_of};
@@ -8,7 +10,7 @@ ghost use Rattle.instruction.specs.Instruction.{verify_refused, given, instructi
 pub mod token;
 
 // What an opcode byte asks for.
-#[derive(Drop)]
+#[derive(Clone, Copy)]
 pub enum Op {
     // A push of so many bytes.
     Push(u32),
@@ -26,7 +28,7 @@ pub enum Op {
 }
 
 // What the bytes of a push say as a number.
-#[derive(Drop)]
+#[derive(Clone, Copy)]
 pub enum Number {
     Is(u32),
     NotMinimal,
@@ -35,7 +37,7 @@ pub enum Number {
 
 // What one instruction gives: its tokens and how many bytes it has, or a refusal's number. The size stands at one place in both
 // cases, and the number apart from the code: read together, they would have to wait for two stores (five times the time a token).
-#[derive(Drop)]
+#[derive(Clone, Copy)]
 pub enum Lexed {
     One { code: u32, size: usize, number: u32 },
     // A token without a number, and then Verify.

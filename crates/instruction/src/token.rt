@@ -1,4 +1,6 @@
 // The codes of tokens, in the order of lex.rs's `Token`. A push of 20, 32, 33 or 65 bytes is Hash20 to Bytes65.
+#![tactic(auto)]
+
 pub const BOOL_AND: u32 = 1;
 
 pub const BOOL_OR: u32 = 2;

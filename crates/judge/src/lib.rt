@@ -1,6 +1,7 @@
 // The judging part of a step of decode.rs: the node that a reduction makes of its children, or the reason of 14. The
 // children are the newest finished subtrees of the node table, found by `size`; types are read from their fields, judged
 // by the rule of the new node's kind, and the node is returned by value. Nothing is written here.
+#![tactic(auto)]
 ghost use Rattle.std.specs.Prelude.{◌≡◌, ◌+◌, ◌*◌, ◌<◌, length};
 ghost use Rattle.tables.specs.Tables.{newest};
 ghost use Rattle.base_input.specs.Numbers.{bool_number};
@@ -14,7 +15,7 @@ use correctness::{Base, Correctness, Input, Leaf, Typed};
 
 // A node before it is put into the table: 01's nine numbers. Laid out as in C, for callers who lend a table of such records.
 #[repr(C)]
-#[derive(Drop)]
+#[derive(Clone, Copy)]
 pub struct Node {
     pub kind: u32,
     pub number: u32,
@@ -28,7 +29,7 @@ pub struct Node {
 }
 
 // What a reduction answers: the node, or 14's reason.
-#[derive(Drop)]
+#[derive(Clone, Copy)]
 pub enum Made {
     Is(Node),
     Not(u32),

@@ -1,4 +1,6 @@
 // Bytes to tokens: lex.rs over one lent token table, with document 01's numbers and places.
+#![tactic(auto)]
+
 ghost use Rattle.std.specs.Prelude.{◌≡◌, ◌+◌, ◌*◌, ◌/◌, ◌≤◌, ◌<◌, leb, length};
 ghost use Rattle.tables.specs.Tables.{zeros, put_at};
 ghost use Rattle.lex.specs.Token.{token};
@@ -12,14 +14,14 @@ use instruction::{Lexed, instruction};
 pub const SCRIPT_LIMIT: usize = 10000;
 
 // What lexing a script answers: how many tokens it has, or document 01's number and place.
-#[derive(Drop)]
+#[derive(Clone, Copy)]
 pub enum Answer {
     Tokens(usize),
     Refused { number: u32, place: usize },
 }
 
 // The sizes of tables that are ample for a script, or what lexing it refuses.
-#[derive(Drop)]
+#[derive(Clone, Copy)]
 pub enum Ample {
     Sizes {
         tokens: usize,

@@ -1,4 +1,5 @@
 // The desk on a stored list: the edges of the program's tables (crates/limits/cases).
+#![tactic(auto)]
 fn main() {
     desk::run();
 }

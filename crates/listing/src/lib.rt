@@ -1,4 +1,6 @@
 // The listing that the program writes for a script, line by line into a lent output: document 01, section "Program".
+#![tactic(auto)]
+
 ghost use Rattle.std.specs.Prelude.{◌≡◌, [], ◌∷◌, ◌++◌, leb, length, get_or, ◌+◌, ◌*◌, ◌%◌, ◌≤◌, ◌<◌};
 ghost use Rattle.listing.specs.Digits.{glyph as Digits·glyph, digits};
 ghost use Rattle.listing.specs.Lines.{SPACE, LINE_FEED, header_line, node_field, type_word, node_line, key_line};
@@ -6,7 +8,7 @@ ghost use Rattle.listing.specs.Output.{write, put, puts};
 ghost use Rattle.listing.specs.Listing.{line_at};
 
 // What the reader answers about a script, as the first line of its listing has it.
-#[derive(Drop)]
+#[derive(Clone, Copy)]
 pub struct Header {
     pub number: u32,
     pub reason: u32,

@@ -1,6 +1,7 @@
 // Points of the row Expression that end in a multi or a multi_a. The keys stay where they are: a row hands on the first
 // key's token, how many there are, and the stride from one to the next. All functions are the decoder's own: they ask that the token
 // table is the lexer's.
+#![tactic(auto)]
 ghost use Rattle.std.specs.Prelude.{◌≡◌, false, [], ◌+◌, ◌≤◌, ◌<◌};
 ghost use Rattle.standard.specs.Allowed.{multi_key, multi_count};
 ghost use Rattle.standard.specs.Rows as point;
@@ -293,7 +294,7 @@ fn multi_a_key(segwit: bool, code: u32) -> u32
 }
 
 // A key with CHECKSIGADD: how many tokens are left, and the number of its refusal, 0 if there is none.
-#[derive(Drop)]
+#[derive(Clone, Copy)]
 pub struct AddedKey {
     pub left: usize,
     pub refused: u32,

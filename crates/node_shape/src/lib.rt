@@ -1,5 +1,6 @@
 // The encoder's checks that look at one node alone: what a node of its kind holds, that unused fields are 0 and that
 // places and key offsets are in range (21), and that its values are allowed (11, 12, 13).
+#![tactic(auto)]
 ghost use Rattle.std.specs.Prelude.{◌≡◌, true, false, ◌+◌, ◌≤◌, length, take, drop};
 ghost use Rattle.std.proofs.Math.Option.{some};
 ghost use Rattle.tables.specs.Choose.{pick};
@@ -16,7 +17,7 @@ use locks::key_form;
 use row::token::{BYTES32, BYTES33};
 
 // What a node of a kind holds.
-#[derive(Drop)]
+#[derive(Clone, Copy)]
 pub struct Shape {
     // Whether it has a number: a locktime or k.
     pub number: bool,
@@ -31,7 +32,7 @@ pub struct Shape {
 }
 
 // The shape of a kind, if the number is a kind's.
-#[derive(Drop)]
+#[derive(Clone, Copy)]
 pub enum Told {
     Unknown,
     Is(Shape),

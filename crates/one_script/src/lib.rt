@@ -1,1 +1,3 @@
 // One tree, one script: the theorem alone, see specs/.
+
+#![tactic(auto)]

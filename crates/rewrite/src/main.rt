@@ -10,26 +10,27 @@
 // The work table has 4,098 entries and the output 10,000 bytes, ample for the 512 nodes and 1,000 keys that a job may have.
 // Where a job's first line has three numbers more, each after a blank, they are other sizes for both and how many numbers of
 // the node table lie behind the last whole node. All numbers are hexadecimal. Jobs beyond these limits are not answered.
+#![tactic(auto)]
 ghost use Rattle.std.specs.Prelude.{◌≤◌, ◌<◌, ◌≡◌, length};
 
 use encode::Encoded;
 
 // A number, and where in the input it ends.
-#[derive(Drop)]
+#[derive(Clone, Copy)]
 struct Number {
     value: u32,
     at: usize,
 }
 
 // How many bytes of a script there are, and where in the input they end.
-#[derive(Drop)]
+#[derive(Clone, Copy)]
 struct Script {
     size: usize,
     at: usize,
 }
 
 // The sizes of a work table and an output, how many numbers lie behind the last whole node, and where in the input that ends.
-#[derive(Drop)]
+#[derive(Clone, Copy)]
 struct Room {
     work: usize,
     out: usize,
@@ -38,7 +39,7 @@ struct Room {
 }
 
 // How many nodes and keys a listing has, and where its header ends.
-#[derive(Drop)]
+#[derive(Clone, Copy)]
 struct Header {
     nodes: usize,
     keys: usize,

@@ -1,5 +1,6 @@
 // What the rows of `decode` are read with: the work entries, what a row asks for, and the three functions through which alone
 // a row takes, looks at and puts back tokens (each lends a cursor, crate `cursor`). All of it is the decoder's own.
+#![tactic(auto)]
 ghost use Rattle.std.specs.Prelude.{◌≡◌, ◌+◌, ◌*◌, ◌≤◌, length};
 ghost use Rattle.row.specs.Tokens.{taken_of, ahead_of};
 
@@ -11,7 +12,7 @@ pub mod kind;
 pub use lex::token;
 
 // decode.rs's NonTerm: an entry of the work list.
-#[derive(Drop)]
+#[derive(Clone, Copy)]
 pub enum NonTerm {
     Expression,
     WExpression,
@@ -40,7 +41,7 @@ pub enum NonTerm {
 }
 
 // The hash of a lock.
-#[derive(Drop)]
+#[derive(Clone, Copy)]
 pub enum Hash {
     Sha256,
     Hash256,
@@ -49,7 +50,7 @@ pub enum Hash {
 }
 
 // What a row asks for.
-#[derive(Drop)]
+#[derive(Clone, Copy)]
 pub enum Row {
     // Document 01's number.
     Refused(u32),
@@ -84,14 +85,14 @@ pub enum Row {
 }
 
 // A row that was read: how many tokens are left, and what it asks for.
-#[derive(Drop)]
+#[derive(Clone, Copy)]
 pub struct Found {
     pub left: usize,
     pub row: Row,
 }
 
 // The next token, and how many are left once it is taken; or none is left.
-#[derive(Drop)]
+#[derive(Clone, Copy)]
 pub enum Taken {
     Nothing,
     Token {
@@ -103,7 +104,7 @@ pub enum Taken {
 }
 
 // The code of the token that would be taken next.
-#[derive(Drop)]
+#[derive(Clone, Copy)]
 pub enum Ahead {
     Nothing,
     Code(u32),

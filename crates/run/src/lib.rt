@@ -1,5 +1,6 @@
 // decode.rs's loop over lent tables. One step takes one entry off the work list: its row is read (crate `rows`), the node
 // that it asks for is judged (crate `judge`), and only then anything is written (crate `perform`).
+#![tactic(auto)]
 ghost use Rattle.std.specs.Prelude.{◌≡◌, ◌*◌, ◌≤◌, length};
 ghost use mathlib.Core.List.{[], reverse_aux};
 ghost use Rattle.standard.specs.Machine.{decode};
@@ -13,7 +14,7 @@ use writes::{State, Step};
 
 // How a run ended: 0 or the refusal with how many tokens stand before the one that it is about; the steps; and how many
 // nodes and keys the tables hold.
-#[derive(Drop)]
+#[derive(Clone, Copy)]
 pub struct Ran {
     pub number: u32,
     pub reason: u32,

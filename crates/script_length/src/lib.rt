@@ -1,5 +1,6 @@
 // How many bytes the script of a node table's tree has, worked out with no table of its own: what each node adds to it,
 // with the VERIFY of a v: left out where the opcode before it also verifies.
+#![tactic(auto)]
 ghost use Rattle.std.specs.Prelude.{◌≡◌, ◌+◌, ◌-◌, ◌*◌, ◌≤◌, ◌<◌, length};
 ghost use Rattle.tables.specs.Tables.{newest};
 ghost use Rattle.spelling.specs.Spell.{number_bytes};
@@ -13,7 +14,7 @@ use row::kind;
 
 // What the script of a node's tree ends in: an opcode that also has a verifying form, any other, or what its first or
 // second child's script ends in.
-#[derive(Drop)]
+#[derive(Clone, Copy)]
 pub enum Ending {
     Fusible,
     Plain,

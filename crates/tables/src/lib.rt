@@ -1,4 +1,6 @@
 // What every layer shares: the definitions in specs/, their laws in proofs/, clearing a lent table, and a number as a length.
+#![tactic(auto)]
+
 ghost use Rattle.std.specs.Prelude.{◌≡◌, length};
 ghost use Rattle.tables.specs.Tables.{zeros};
 

@@ -1,5 +1,6 @@
 // The encoder's writing pass, over a node table that has passed its checks: one run from the last node to the first, with a
 // work list of the pieces still to be written.
+#![tactic(auto)]
 ghost use Rattle.std.specs.Prelude.{◌≡◌, ◌++◌, ◌-◌, ◌%◌, length, drop, get_or};
 ghost use Rattle.encoding.specs.Encoding.{tree_in};
 ghost use Rattle.write_script.specs.Writing.{bytes_of, Writable};
@@ -8,7 +9,7 @@ ghost use Rattle.write_script.specs.Pass.{state, Going, Keeps};
 use emit::Pen;
 
 // How far the pass has come: so many pieces still to be written, so many nodes still to be taken, and the pen.
-#[derive(Drop)]
+#[derive(Clone, Copy)]
 pub struct State {
     pub work: usize,
     pub left: usize,

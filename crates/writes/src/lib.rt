@@ -1,5 +1,6 @@
 // What a step writes: entries on the work list, a node behind those in the node table, a multi's keys behind those in the
 // key table. All that doesn't fit is refused before anything is written, in document 01's order.
+#![tactic(auto)]
 ghost use Rattle.std.specs.Prelude.{◌≡◌, [], ◌∷◌, ◌+◌, ◌≤◌, ◌<◌, leb, length};
 ghost use Rattle.row.specs.declared.NonTerm.TheVariants as non-term;
 ghost use Rattle.row.specs.Request.{offsets_from};
@@ -13,7 +14,7 @@ use judge::{Made, Node};
 use row::NonTerm;
 
 // How many tokens are left, and how many entries, nodes and keys the tables hold.
-#[derive(Drop)]
+#[derive(Clone, Copy)]
 pub struct State {
     pub left: usize,
     pub work: usize,
@@ -22,7 +23,7 @@ pub struct State {
 }
 
 // What a step answers. A refusal holds how many tokens stand before the one that it is about.
-#[derive(Drop)]
+#[derive(Clone, Copy)]
 pub enum Step {
     Goes(State),
     Stops {
