@@ -1,6 +1,7 @@
 // The correctness types: a port of miniscript 13.2.0's src/miniscript/types/correctness.rs. Each rule is one short
 // function, its checks in that file's order. A rule's contract is one equation with its definition in specs/Rules.
 #![tactic(auto)]
+
 ghost use Rattle.std.specs.Prelude.{◌≡◌};
 ghost use Rattle.correctness.specs.Reasons.{reason_of};
 ghost use Rattle.correctness.specs.Rules.{leaf_type, no_children, cast_alt, cast_swap, cast_check, cast_dupif, cast_verify, cast_nonzero, cast_zeronotequal, cast_true, cast_or_i_false, and_b, and_v, or_b, or_d, or_c, or_i, and_or, threshold_child, is_subtype};

@@ -1,4 +1,2 @@
--- Laws and steps that the walks share.
+-- Laws that the proofs share.
 pub mod NextLaws
-pub mod LastCall
-pub mod Lent

@@ -12,6 +12,9 @@ loop-at-init c = fill_begun c.args.s.now (length c.args.t.now) c.args.t.now c.re
 pub returns-then-room-n-lt1 : goal.returns-then-room-n-lt1
 returns-then-room-n-lt1 c = fill_full_one c.args.s.now (length c.args.t.now) c.loop-at.t c.loop-at.at c.loop-at.n c.loop-at.last c.loop-at.invariant c.loop-at-test.true _ c.instruction-got.ensures _ _ _ _ c.in-One.is c.if-room-n-lt1.true c.refused.ensures
 
+pub overflow_add-at : goal.overflow_add-at
+overflow_add-at c = omega (arith, one_fits c.args.s.now c.loop-at.at c.loop-at.last c.loop-at-test.true c.instruction-got.ensures _ _ _ c.in-One.is)
+
 pub loop-at-smaller-in-One : goal.loop-at-smaller-in-One
 loop-at-smaller-in-One c = omega (arith, one_fits c.args.s.now c.loop-at.at c.loop-at.last c.loop-at-test.true c.instruction-got.ensures _ _ _ c.in-One.is)
 
@@ -20,6 +23,9 @@ loop-at-preserved-in-One c = fill_one c.args.s.now (length c.args.t.now) c.loop-
 
 pub returns-then-room-n-lt2 : goal.returns-then-room-n-lt2
 returns-then-room-n-lt2 c = fill_full_two c.args.s.now (length c.args.t.now) c.loop-at.t c.loop-at.at c.loop-at.n c.loop-at.last c.loop-at.invariant c.loop-at-test.true _ c.instruction-got.ensures _ _ _ c.in-Two.is c.if-room-n-lt2.true c.refused-then-room-n-lt2.ensures
+
+pub overflow_add-at-in-Two : goal.overflow_add-at-in-Two
+overflow_add-at-in-Two c = omega (arith, two_fits c.args.s.now c.loop-at.at c.loop-at.last c.loop-at-test.true c.instruction-got.ensures _ _ c.in-Two.is)
 
 pub loop-at-smaller : goal.loop-at-smaller
 loop-at-smaller c = omega (arith, two_fits c.args.s.now c.loop-at.at c.loop-at.last c.loop-at-test.true c.instruction-got.ensures _ _ c.in-Two.is)

@@ -1,0 +1,25 @@
+-- `correctness::Correctness::or_b` meets its contract.
+use Rattle.base_input.proofs.Chosen.{fails, holds, both_is}
+use Rattle.correctness.proofs.Checks.{refuses, passes, same_is}
+use Rattle.correctness.proofs.Correctness.or_b.Goals as goal
+use Rattle.correctness.specs.Rules.{or_b}
+use Rattle.std.proofs.Common.{ap}
+use Rattle.std.specs.Prelude.{not}
+use borrow.Author.Tests.{not-true, not-false}
+use mathlib.Core.Path.{refl}
+
+pub returns-then-not-left : goal.returns-then-not-left
+unfolding or_b
+returns-then-not-left c = refuses _ _ (not-true c.args.left.dissatisfiable c.if-not-left.true)
+
+pub returns-then-not-right : goal.returns-then-not-right
+unfolding or_b
+returns-then-not-right c = passes _ _ (not-false c.args.left.dissatisfiable c.if-not-left.false) (refuses _ _ (not-true c.args.right.dissatisfiable c.if-not-right.true))
+
+pub returns-then-not-both : goal.returns-then-not-both
+unfolding or_b
+returns-then-not-both c = passes _ _ (not-false c.args.left.dissatisfiable c.if-not-left.false) (passes _ _ (not-false c.args.right.dissatisfiable c.if-not-right.false) (refuses _ _ (fails (ap not c.if-not-both.true) (both_is c.both.ensures c.is_b.ensures c.is_w.ensures))))
+
+pub returns : goal.returns
+unfolding or_b
+returns c = passes _ _ (not-false c.args.left.dissatisfiable c.if-not-left.false) (passes _ _ (not-false c.args.right.dissatisfiable c.if-not-right.false) (passes _ _ (holds (ap not c.if-not-both.false) (both_is c.both.ensures c.is_b.ensures c.is_w.ensures)) (same_is _ c.or-input.ensures refl refl)))

@@ -1,0 +1,25 @@
+-- `correctness::Correctness::or_d` meets its contract.
+use Rattle.base_input.proofs.Chosen.{fails, holds, both_is}
+use Rattle.correctness.proofs.Checks.{refuses, passes, same_is}
+use Rattle.correctness.proofs.Correctness.or_d.Goals as goal
+use Rattle.correctness.specs.Rules.{or_d}
+use Rattle.std.proofs.Common.{ap}
+use Rattle.std.specs.Prelude.{not}
+use borrow.Author.Tests.{not-true, not-false}
+use mathlib.Core.Path.{refl}
+
+pub returns-then-not-left : goal.returns-then-not-left
+unfolding or_d
+returns-then-not-left c = refuses _ _ (not-true c.args.left.dissatisfiable c.if-not-left.true)
+
+pub returns-then-not-left-2 : goal.returns-then-not-left-2
+unfolding or_d
+returns-then-not-left-2 c = passes _ _ (not-false c.args.left.dissatisfiable c.if-not-left.false) (refuses _ _ (not-true c.args.left.unit c.if-not-left-2.true))
+
+pub returns-then-not-both : goal.returns-then-not-both
+unfolding or_d
+returns-then-not-both c = passes _ _ (not-false c.args.left.dissatisfiable c.if-not-left.false) (passes _ _ (not-false c.args.left.unit c.if-not-left-2.false) (refuses _ _ (fails (ap not c.if-not-both.true) (both_is c.both.ensures c.is_b.ensures c.is_b-2.ensures))))
+
+pub returns : goal.returns
+unfolding or_d
+returns c = passes _ _ (not-false c.args.left.dissatisfiable c.if-not-left.false) (passes _ _ (not-false c.args.left.unit c.if-not-left-2.false) (passes _ _ (holds (ap not c.if-not-both.false) (both_is c.both.ensures c.is_b.ensures c.is_b-2.ensures)) (same_is _ c.or_else-input.ensures refl refl)))
