@@ -1,6 +1,7 @@
 // The rows of ENDIF: EndIf, EndIfNotIf and EndIfElse, which are d:, j:, or_c, or_d, or_i and and_or. Each function takes one token and
 // goes on by its code. All are the decoder's own: they ask that the token table is the lexer's.
 #![tactic(auto)]
+
 ghost use Rattle.standard.specs.Rows as point;
 ghost use Rattle.row.specs.Tokens.{InTable};
 ghost use Rattle.row.specs.Told.{Told};

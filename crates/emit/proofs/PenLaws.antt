@@ -237,6 +237,6 @@ AllCoded (l ∷ ls) = Coded l × AllCoded ls
 pub wrote_several : {before all out : List ℕ} {p : Pen} (ls rest : List Lexeme) → Wrote before all out p (ls ++ rest) → AllCoded ls
     → RoomForAll (length before) p ls × Wrote before all (inked_all out p ls) (penned_all p ls) rest
 wrote_several [] rest w c = (tt, w)
-wrote_several (l ∷ ls) rest w c =
-    let m = wrote_several ls rest (wrote_more l (ls ++ rest) w) c.1 in
+wrote_several {before = before} {all = all} {out = out} {p = p} (l ∷ ls) rest w c =
+    let m = wrote_several {out = inked out p l} {p = penned p l} ls rest (wrote_more l (ls ++ rest) w) c.1 in
     ((wrote_room l (ls ++ rest) w c.0, m.0), m.1)

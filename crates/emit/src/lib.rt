@@ -1,6 +1,7 @@
 // Writing lexemes one after the other: each as one instruction, in its shortest form, and a VERIFY together with the opcode
 // before it where a fused form exists. Only the last byte written is ever looked back at.
 #![tactic(auto)]
+
 ghost use Rattle.std.specs.Prelude.{◌≡◌, ◌+◌, ◌≤◌, length, take, drop};
 ghost use Rattle.tables.specs.Tables.{put_at};
 ghost use Rattle.lex.specs.Token.{op, num, push, data_at};

@@ -2,6 +2,7 @@
 // children are the newest finished subtrees of the node table, found by `size`; types are read from their fields, judged
 // by the rule of the new node's kind, and the node is returned by value. Nothing is written here.
 #![tactic(auto)]
+
 ghost use Rattle.std.specs.Prelude.{◌≡◌, ◌+◌, ◌*◌, ◌<◌, length};
 ghost use Rattle.tables.specs.Tables.{newest};
 ghost use Rattle.base_input.specs.Numbers.{bool_number};

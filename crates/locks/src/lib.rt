@@ -2,6 +2,7 @@
 // Each takes one token and goes on by its code, as decode.rs's nested `match_token!` does, and is named for what has been
 // read since Expression was taken. All are the decoder's own: they ask that the token table is the lexer's.
 #![tactic(auto)]
+
 ghost use Rattle.std.specs.Prelude.{◌≡◌};
 ghost use Rattle.standard.specs.Allowed as allowed;
 ghost use Rattle.standard.specs.Allowed.{key_form};

@@ -1,5 +1,6 @@
 // The kinds of nodes: document 01, "numbered by Terminal's order from True 1 to MultiA 28"; 4, PkH, never occurs.
 #![tactic(auto)]
+
 pub const TRUE: u32 = 1;
 
 pub const FALSE: u32 = 2;

@@ -1,6 +1,7 @@
 // What the rows of `decode` are read with: the work entries, what a row asks for, and the three functions through which alone
 // a row takes, looks at and puts back tokens (each lends a cursor, crate `cursor`). All of it is the decoder's own.
 #![tactic(auto)]
+
 ghost use Rattle.std.specs.Prelude.{◌≡◌, ◌+◌, ◌*◌, ◌≤◌, length};
 ghost use Rattle.row.specs.Tokens.{taken_of, ahead_of};
 

@@ -1,6 +1,7 @@
 // The work list of decode.rs over a lent table: one 64-bit number for each entry, the newest at the end of those in use. A
 // pop writes nothing, since what lies above the newest entry is never read.
 #![tactic(auto)]
+
 ghost use Rattle.std.specs.Prelude.{◌≡◌, [], ◌∷◌, ◌+◌, ◌-◌, ◌*◌, ◌/◌, ◌≤◌, ◌<◌, length, get_or};
 ghost use Rattle.tables.specs.Tables.{put_at};
 ghost use Rattle.work_list.specs.Work.{packed, Small, k_of, n_of, unpacked};
