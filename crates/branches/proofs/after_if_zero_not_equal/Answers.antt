@@ -1,17 +1,13 @@
 -- `branches::after_if_zero_not_equal` meets its contract: token by token, by TakenLaws of `row`.
--- src/lib.rt:227:9
 use Rattle.branches.proofs.after_if_zero_not_equal.Goals as goal
 use Rattle.row.proofs.TakenLaws.{dry, arm, unfit}
 use mathlib.Core.Path.{refl}
 
--- src/lib.rt:234:9
 pub returns-in_default : goal.returns-in_default
 returns-in_default c = λ segwit script. dry segwit _ script c.args.tokens.now c.args.left c.next-taken.ensures c.in_default.is
 
--- src/lib.rt:223:1
 pub returns-in-21 : goal.returns-in-21
 returns-in-21 c = λ segwit script. arm segwit _ script c.args.tokens.now c.args.left c.next-taken.ensures c.in-Token.is 21 c.in-21.is refl
 
--- src/lib.rt:223:1
 pub returns-in_default-code : goal.returns-in_default-code
 returns-in_default-code c = λ segwit script. unfit segwit _ script c.args.tokens.now c.args.left c.next-taken.ensures c.in-Token.is tt refl c.in_default-code.in_default-code-own.rest

@@ -1,21 +1,16 @@
 -- `branches::end_if_else` meets its contract: token by token, by TakenLaws of `row`.
--- src/lib.rt:348:9
 use Rattle.branches.proofs.end_if_else.Goals as goal
 use Rattle.row.proofs.TakenLaws.{dry, arm, unfit}
 use mathlib.Core.Path.{refl}
 
--- src/lib.rt:355:9
 pub returns-in_default : goal.returns-in_default
 returns-in_default c = λ segwit script. dry segwit _ script c.args.tokens.now c.args.left c.next-taken.ensures c.in_default.is
 
--- src/lib.rt:344:1
 pub returns-in-15 : goal.returns-in-15
 returns-in-15 c = λ segwit script. arm segwit _ script c.args.tokens.now c.args.left c.next-taken.ensures c.in-Token.is 15 c.in-15.is refl
 
--- src/lib.rt:344:1
 pub returns-in-17 : goal.returns-in-17
 returns-in-17 c = λ segwit script. arm segwit _ script c.args.tokens.now c.args.left c.next-taken.ensures c.in-Token.is 17 c.in-17.is refl
 
--- src/lib.rt:344:1
 pub returns-in_default-code : goal.returns-in_default-code
 returns-in_default-code c = λ segwit script. unfit segwit _ script c.args.tokens.now c.args.left c.next-taken.ensures c.in-Token.is tt refl c.in_default-code.in_default-code-own.rest

@@ -1,5 +1,4 @@
 -- `branches::end_if_not_if` meets its contract: token by token, by TakenLaws of `row`.
--- src/lib.rt:319:9
 use Rattle.branches.proofs.end_if_not_if.Goals as goal
 use Rattle.row.proofs.TakenLaws.{dry, arm, put_back_lem}
 use Rattle.row.specs.declared.NonTerm.TheVariants as non-term
@@ -8,14 +7,11 @@ use Rattle.standard.specs.Rows as point
 use mathlib.Core.List.{[], ◌∷◌}
 use mathlib.Core.Path.{refl}
 
--- src/lib.rt:326:9
 pub returns-in_default : goal.returns-in_default
 returns-in_default c = λ segwit script. dry segwit _ script c.args.tokens.now c.args.left c.next-taken.ensures c.in_default.is
 
--- src/lib.rt:315:1
 pub returns-in-16 : goal.returns-in-16
 returns-in-16 c = λ segwit script. arm segwit _ script c.args.tokens.now c.args.left c.next-taken.ensures c.in-Token.is 16 c.in-16.is refl
 
--- src/lib.rt:315:1
 pub returns-in_default-code : goal.returns-in_default-code
 returns-in_default-code c = λ segwit script. put_back_lem segwit _ script c.args.tokens.now c.args.left c.next-taken.ensures c.in-Token.is (point.opcode 16 (point.enter (point.Expression ∷ point.OrD ∷ [])) ∷ []) (point.OrC ∷ []) (row.Enter2 non-term.OrC non-term.Expression) tt refl c.in_default-code.in_default-code-own.rest refl c.un_next.ensures

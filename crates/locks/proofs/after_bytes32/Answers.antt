@@ -1,21 +1,16 @@
 -- `locks::after_bytes32` meets its contract: token by token, by TakenLaws of `row`.
--- src/lib.rt:220:9
 use Rattle.locks.proofs.after_bytes32.Goals as goal
 use Rattle.row.proofs.TakenLaws.{dry, onward, unfit}
 use mathlib.Core.Path.{refl}
 
--- src/lib.rt:222:9
 pub returns-in_default : goal.returns-in_default
 returns-in_default c = λ segwit script bytes. dry segwit _ script c.args.tokens.now c.args.left c.next-taken.ensures c.in_default.is
 
--- src/lib.rt:216:1
 pub returns-in-26 : goal.returns-in-26
 returns-in-26 c = λ segwit script bytes. onward segwit _ script c.args.tokens.now c.args.left c.next-taken.ensures c.in-Token.is 26 _ c.in-26.is refl (c.lock_verify.ensures segwit script bytes)
 
--- src/lib.rt:216:1
 pub returns-in-27 : goal.returns-in-27
 returns-in-27 c = λ segwit script bytes. onward segwit _ script c.args.tokens.now c.args.left c.next-taken.ensures c.in-Token.is 27 _ c.in-27.is refl (c.lock_verify-in-27.ensures segwit script bytes)
 
--- src/lib.rt:216:1
 pub returns-in_default-code : goal.returns-in_default-code
 returns-in_default-code c = λ segwit script bytes. unfit segwit _ script c.args.tokens.now c.args.left c.next-taken.ensures c.in-Token.is tt refl c.in_default-code.in_default-code-own.rest

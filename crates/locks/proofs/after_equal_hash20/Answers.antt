@@ -1,21 +1,16 @@
 -- `locks::after_equal_hash20` meets its contract: token by token, by TakenLaws of `row`.
--- src/lib.rt:236:9
 use Rattle.locks.proofs.after_equal_hash20.Goals as goal
 use Rattle.row.proofs.TakenLaws.{dry, onward, unfit}
 use mathlib.Core.Path.{refl}
 
--- src/lib.rt:238:9
 pub returns-in_default : goal.returns-in_default
 returns-in_default c = λ segwit script bytes. dry segwit _ script c.args.tokens.now c.args.left c.next-taken.ensures c.in_default.is
 
--- src/lib.rt:232:1
 pub returns-in-24 : goal.returns-in-24
 returns-in-24 c = λ segwit script bytes. onward segwit _ script c.args.tokens.now c.args.left c.next-taken.ensures c.in-Token.is 24 _ c.in-24.is refl (c.lock_verify.ensures segwit script bytes)
 
--- src/lib.rt:232:1
 pub returns-in-25 : goal.returns-in-25
 returns-in-25 c = λ segwit script bytes. onward segwit _ script c.args.tokens.now c.args.left c.next-taken.ensures c.in-Token.is 25 _ c.in-25.is refl (c.lock_verify-in-25.ensures segwit script bytes)
 
--- src/lib.rt:232:1
 pub returns-in_default-code : goal.returns-in_default-code
 returns-in_default-code c = λ segwit script bytes. unfit segwit _ script c.args.tokens.now c.args.left c.next-taken.ensures c.in-Token.is tt refl c.in_default-code.in_default-code-own.rest

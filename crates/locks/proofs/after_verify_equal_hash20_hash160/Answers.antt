@@ -1,21 +1,16 @@
 -- `locks::after_verify_equal_hash20_hash160` meets its contract: token by token, by TakenLaws of `row`.
--- src/lib.rt:252:9
 use Rattle.locks.proofs.after_verify_equal_hash20_hash160.Goals as goal
 use Rattle.row.proofs.TakenLaws.{dry, arm, onward, unfit}
 use mathlib.Core.Path.{refl}
 
--- src/lib.rt:254:9
 pub returns-in_default : goal.returns-in_default
 returns-in_default c = λ segwit script bytes. dry segwit _ script c.args.tokens.now c.args.left c.next-taken.ensures c.in_default.is
 
--- src/lib.rt:248:1
 pub returns-in-14 : goal.returns-in-14
 returns-in-14 c = λ segwit script bytes. arm segwit _ script c.args.tokens.now c.args.left c.next-taken.ensures c.in-Token.is 14 c.in-14.is refl
 
--- src/lib.rt:248:1
 pub returns-in-23 : goal.returns-in-23
 returns-in-23 c = λ segwit script bytes. onward segwit _ script c.args.tokens.now c.args.left c.next-taken.ensures c.in-Token.is 23 _ c.in-23.is refl (c.lock_equal.ensures segwit script bytes)
 
--- src/lib.rt:248:1
 pub returns-in_default-code : goal.returns-in_default-code
 returns-in_default-code c = λ segwit script bytes. unfit segwit _ script c.args.tokens.now c.args.left c.next-taken.ensures c.in-Token.is tt refl c.in_default-code.in_default-code-own.rest

@@ -1,13 +1,12 @@
 -- `locks::key_form` meets its contract: KeyLaws, test by test.
--- src/lib.rt:38:9
 use Rattle.locks.proofs.KeyLaws.{by_first_byte}
 use Rattle.locks.proofs.key_form.Goals as goal
+use Rattle.std.proofs.Common.{ap}
+use Rattle.std.specs.Prelude.{not}
 use mathlib.Core.Path.{refl}
 
--- src/lib.rt:34:1
 pub returns-in-2 : goal.returns-in-2
-returns-in-2 c = by_first_byte c.args.segwit c.args.script.now c.args.code c.args.offset 2 c.if-not-segwit.false c.if-code-ne-BYTES33.false c.in-2.is refl
+returns-in-2 c = by_first_byte c.args.segwit c.args.script.now c.args.code c.args.offset 2 (ap not c.if-not-segwit.false) c.if-code-ne-BYTES33.false c.in-2.is refl
 
--- src/lib.rt:34:1
 pub returns-in-3 : goal.returns-in-3
-returns-in-3 c = by_first_byte c.args.segwit c.args.script.now c.args.code c.args.offset 3 c.if-not-segwit.false c.if-code-ne-BYTES33.false c.in-3.is refl
+returns-in-3 c = by_first_byte c.args.segwit c.args.script.now c.args.code c.args.offset 3 (ap not c.if-not-segwit.false) c.if-code-ne-BYTES33.false c.in-3.is refl

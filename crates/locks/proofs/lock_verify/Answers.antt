@@ -1,17 +1,13 @@
 -- `locks::lock_verify` meets its contract: token by token, by TakenLaws of `row`.
--- src/lib.rt:205:9
 use Rattle.locks.proofs.lock_verify.Goals as goal
 use Rattle.row.proofs.TakenLaws.{dry, onward, unfit}
 use mathlib.Core.Path.{refl}
 
--- src/lib.rt:207:9
 pub returns-in_default : goal.returns-in_default
 returns-in_default c = λ segwit script bytes. dry segwit _ script c.args.tokens.now c.args.left c.next-taken.ensures c.in_default.is
 
--- src/lib.rt:201:1
 pub returns-in-23 : goal.returns-in-23
 returns-in-23 c = λ segwit script bytes. onward segwit _ script c.args.tokens.now c.args.left c.next-taken.ensures c.in-Token.is 23 _ c.in-23.is refl (c.lock_equal.ensures segwit script bytes)
 
--- src/lib.rt:201:1
 pub returns-in_default-code : goal.returns-in_default-code
 returns-in_default-code c = λ segwit script bytes. unfit segwit _ script c.args.tokens.now c.args.left c.next-taken.ensures c.in-Token.is tt refl c.in_default-code.in_default-code-own.rest
