@@ -2,6 +2,7 @@
 // key's token, how many there are, and the stride from one to the next. All functions are the decoder's own: they ask that the token
 // table is the lexer's.
 #![tactic(auto)]
+
 ghost use Rattle.std.specs.Prelude.{◌≡◌, false, [], ◌+◌, ◌≤◌, ◌<◌};
 ghost use Rattle.standard.specs.Allowed.{multi_key, multi_count};
 ghost use Rattle.standard.specs.Rows as point;

@@ -1,6 +1,7 @@
 // The encoder's checks that look at one node alone: what a node of its kind holds, that unused fields are 0 and that
 // places and key offsets are in range (21), and that its values are allowed (11, 12, 13).
 #![tactic(auto)]
+
 ghost use Rattle.std.specs.Prelude.{◌≡◌, true, false, ◌+◌, ◌≤◌, length, take, drop};
 ghost use Rattle.std.proofs.Math.Option.{some};
 ghost use Rattle.tables.specs.Choose.{pick};

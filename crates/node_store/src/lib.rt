@@ -1,6 +1,7 @@
 // The writing part of a step of decode.rs: a node at the end of the node table, and a multi's keys at the end of the key
 // table. That there is room for them is tested by the caller.
 #![tactic(auto)]
+
 ghost use Rattle.std.specs.Prelude.{◌≡◌, ◌+◌, ◌*◌, ◌≤◌, ◌<◌, length};
 ghost use Rattle.tables.specs.Tables.{put_at};
 ghost use Rattle.standard.specs.Table.{cells};

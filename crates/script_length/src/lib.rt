@@ -1,6 +1,7 @@
 // How many bytes the script of a node table's tree has, worked out with no table of its own: what each node adds to it,
 // with the VERIFY of a v: left out where the opcode before it also verifies.
 #![tactic(auto)]
+
 ghost use Rattle.std.specs.Prelude.{◌≡◌, ◌+◌, ◌-◌, ◌*◌, ◌≤◌, ◌<◌, length};
 ghost use Rattle.tables.specs.Tables.{newest};
 ghost use Rattle.spelling.specs.Spell.{number_bytes};
