@@ -1,6 +1,7 @@
 // The row Expression: its first token decides. Each function takes one token and goes on by its code, and is named for what has
 // been read since Expression was taken. All are the decoder's own: they ask that the token table is the lexer's.
 #![tactic(auto)]
+
 ghost use Rattle.std.specs.Prelude.{◌≡◌};
 ghost use Rattle.standard.specs.Rows as point;
 ghost use Rattle.row.specs.Tokens.{InTable};

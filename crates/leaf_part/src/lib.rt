@@ -1,5 +1,6 @@
 // A leaf's key or hash, handed back as the very part of the caller's script (document 01, section "Encoder").
 #![tactic(auto)]
+
 ghost use Rattle.std.specs.Prelude.{◌≡◌};
 ghost use Rattle.leaf_part.specs.LeafPart.{key_bytes, leaf_bytes, leaf_part};
 

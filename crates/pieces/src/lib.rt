@@ -1,6 +1,7 @@
 // The encoder's work list: the pieces of a script still to be written, the next one on top. A piece is a lexeme, or the next
 // subtree in script order. Here a node's pieces are entered, and a piece that is a lexeme is written.
 #![tactic(auto)]
+
 ghost use Rattle.std.specs.Prelude.{◌≡◌, reverse, ◌+◌, ◌*◌, ◌≤◌, ◌<◌, length};
 ghost use Rattle.tables.specs.Tables.{put_at};
 ghost use Rattle.lex.specs.Token.{data_length};

@@ -1,6 +1,7 @@
 // What a step writes: entries on the work list, a node behind those in the node table, a multi's keys behind those in the
 // key table. All that doesn't fit is refused before anything is written, in document 01's order.
 #![tactic(auto)]
+
 ghost use Rattle.std.specs.Prelude.{◌≡◌, [], ◌∷◌, ◌+◌, ◌≤◌, ◌<◌, leb, length};
 ghost use Rattle.row.specs.declared.NonTerm.TheVariants as non-term;
 ghost use Rattle.row.specs.Request.{offsets_from};
