@@ -30,8 +30,8 @@ ready_first r = record { room = r.room.1; whole = r.whole.1 }
 
 pub ready_split : {size : ℕ} {p : Pen} (xs ys : List Lexeme) → Ready size p (xs ++ ys) → Ready size p xs × Ready size (penned_all p xs) ys
 ready_split [] ys r = (record { room = tt; whole = tt }, r)
-ready_split (x ∷ xs) ys r =
-    let m = ready_split xs ys (ready_first r) in
+ready_split {size = size} {p = p} (x ∷ xs) ys r =
+    let m = ready_split {p = penned p x} xs ys (ready_first r) in
     (record { room = (r.room.0, m.0.room); whole = (r.whole.0, m.0.whole) }, m.1)
 
 pub ready_resized : {size other : ℕ} {p : Pen} {ls : List Lexeme} → size ≡ other → Ready size p ls → Ready other p ls

@@ -1,6 +1,7 @@
 // A multi and a multi_a with their keys, which stand in the key table as offsets into the material. They are written at
 // once, without pieces, so that eight pieces a node suffice however many keys there are.
 #![tactic(auto)]
+
 ghost use Rattle.std.specs.Prelude.{◌≡◌, ◌+◌, ◌≤◌, length};
 ghost use Rattle.emit.specs.Emission.{inked_all, penned_all};
 ghost use Rattle.emit_multi.specs.Multis.{multi_keys, added_keys, multi_script, multi_a_script, Ready};

@@ -1,6 +1,7 @@
 // What a row asks for, carried out on the lent tables: decode.rs's pushes onto its work list and its term stack. All that
 // doesn't fit is refused before anything is written.
 #![tactic(auto)]
+
 ghost use Rattle.row.specs.Request.{request_of};
 ghost use Rattle.node_store.specs.Offsets.{Low};
 ghost use Rattle.lists.specs.Ready.{Ready};

@@ -1,6 +1,7 @@
 // The rows of `decode`: tokens and an entry of the work list to what its row asks for. Only shared slices, and nothing is written.
 // `row_of` is what the decoder's step calls. All functions are the decoder's own: they ask that the token table is the lexer's.
 #![tactic(auto)]
+
 ghost use Rattle.std.specs.Prelude.{◌≡◌, ◌<◌};
 ghost use Rattle.standard.specs.Rows as point;
 ghost use Rattle.standard.specs.Rows.{row_of};

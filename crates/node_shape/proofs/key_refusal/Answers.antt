@@ -3,4 +3,4 @@ use Rattle.node_shape.proofs.ValueLaws.{second, key_tested}
 use Rattle.node_shape.proofs.key_refusal.Goals as goal
 
 pub returns : goal.returns
-returns c = second _ 0 11 (key_tested c.args.segwit c.args.material.now c.args.place c.before.before.the_key_code.ensures c.key_form.ensures) c.if-key_form.false
+returns c = second _ 0 11 (key_tested c.args.segwit c.args.material.now c.args.place c.key_code.ensures c.key_form.ensures) c.if-key_form.false

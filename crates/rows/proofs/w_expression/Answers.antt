@@ -1,0 +1,17 @@
+-- `rows::w_expression` meets its contract: token by token, by TakenLaws of `row`.
+use Rattle.row.proofs.TakenLaws.{dry, arm, put_back_lem}
+use Rattle.row.specs.declared.NonTerm.TheVariants as non-term
+use Rattle.row.specs.declared.Row.TheVariants as row
+use Rattle.rows.proofs.w_expression.Goals as goal
+use Rattle.standard.specs.Rows as point
+use mathlib.Core.List.{[], ◌∷◌}
+use mathlib.Core.Path.{refl}
+
+pub returns-in_default : goal.returns-in_default
+returns-in_default c = λ segwit script. dry segwit _ script c.args.tokens.now c.args.left c.next-taken.ensures c.in_default.is
+
+pub returns-in-11 : goal.returns-in-11
+returns-in-11 c = λ segwit script. arm segwit _ script c.args.tokens.now c.args.left c.next-taken.ensures c.in-Token.is 11 c.in-11.is refl
+
+pub returns-in_default-code : goal.returns-in_default-code
+returns-in_default-code c = λ segwit script. put_back_lem segwit _ script c.args.tokens.now c.args.left c.next-taken.ensures c.in-Token.is (point.opcode 11 (point.enter (point.Expression ∷ point.MaybeAndV ∷ point.Alt ∷ [])) ∷ []) (point.MaybeAndV ∷ point.Swap ∷ []) (row.Enter3 non-term.Swap non-term.MaybeAndV non-term.Expression) tt refl c.in_default-code.in_default-code-own.rest refl c.un_next.ensures
