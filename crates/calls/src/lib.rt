@@ -8,10 +8,14 @@
 //
 // A read or a write that a signal interrupts is tried again. One that fails is told on standard error with the system's reason.
 #![tactic(auto)]
+
 ghost use Rattle.std.specs.Prelude.{◌≡◌, true, false, ◌≤◌, ◌<◌, eqb, length};
 ghost use Rattle.calls.specs.Reads.{reads_left};
 
-use libc::{EINTR, STDIN_FILENO, STDOUT_FILENO};
+use arrayvec::ArrayString;
+use std::fmt::Write;
+use std::io;
+use std::io::Read;
 
 // What a read gave.
 #[derive(Clone, Copy)]
@@ -68,26 +72,37 @@ fn end() -> Part
     }
 }
 
+// Tells on standard error what failed and the system's reason, without the number that the library puts behind it.
+fn tell(rt: HostRuntime, failed: &str, error: io::Error) {
+    let mut text = ArrayString::<256>::new();
+    let _whole = write!(text, "{error}");
+    let reason = text.as_str().split(" (os error ").next().unwrap_or("");
+    let _told = eprintln!(rt; "{failed}: {reason}");
+}
+
 // The part of standard input behind the last one: as many bytes as one read gives.
-pub fn next(last: Part, input: &mut [u8; 4096]) -> Part
+pub fn next(rt: HostRuntime, last: Part, input: &mut [u8; 4096]) -> Part
     requires { last.ended ≡ false }
     ensures { (result.n ≤ 4096) × (result.n ≤ length input.new) × (result.ended ≡ eqb result.n 0) × (reads_left result < reads_left last) }
 {
+    let mut stdin = rt.stdin();
     let mut reads = last.reads;
     while reads > 0 {
         reads -= 1;
-        let got = libc::read(STDIN_FILENO, input);
-        let n = io::count(got, input);
-        if n > 0 {
-            let ended = false;
-            return Part { n, ended, reads };
-        }
-        if got >= 0 {
-            return end();
-        }
-        if os::errno() != EINTR {
-            os::fail(b"a read failed, and the input ends here");
-            return end();
+        match stdin.read(input) {
+            Ok(n) => {
+                if n == 0 {
+                    return end();
+                }
+                let ended = false;
+                return Part { n, ended, reads };
+            }
+            Err(error) => {
+                if error.kind() != io::ErrorKind::Interrupted {
+                    tell(rt, "a read failed, and the input ends here", error);
+                    return end();
+                }
+            }
         }
     }
     end()
@@ -105,32 +120,34 @@ pub fn has_failed(wrote: Wrote) -> bool
     wrote.failed
 }
 
-// A write has failed.
-fn failure() -> Wrote
+// A write has failed, for this reason of the system's.
+fn failure(rt: HostRuntime, error: io::Error) -> Wrote
     ensures { (result.n ≡ 0) × (result.failed ≡ true) }
 {
-    os::fail(b"a write failed, and the listings end here");
+    tell(rt, "a write failed, and the listings end here", error);
     Wrote { n: 0, failed: true }
 }
 
 // One write of these bytes to standard output, which may take only some of them. One that takes none has failed.
-pub fn write(bytes: &[u8]) -> Wrote
+pub fn write(rt: HostRuntime, bytes: &[u8]) -> Wrote
     ensures { (result.n ≤ length bytes.now) × (result.failed ≡ eqb result.n 0) }
 {
     let mut tries = u64::MAX;
     while tries > 0 {
         tries -= 1;
-        let got = libc::write(STDOUT_FILENO, bytes);
-        let n = io::count(got, bytes);
-        if n > 0 {
-            return Wrote { n, failed: false };
-        }
-        if got >= 0 {
-            return failure();
-        }
-        if os::errno() != EINTR {
-            return failure();
+        match rt.stdout().write_some(bytes) {
+            Ok(n) => {
+                if n > 0 {
+                    return Wrote { n, failed: false };
+                }
+                return failure(rt, io::Error::from(io::ErrorKind::WriteZero));
+            }
+            Err(error) => {
+                if error.kind() != io::ErrorKind::Interrupted {
+                    return failure(rt, error);
+                }
+            }
         }
     }
-    failure()
+    failure(rt, io::Error::from(io::ErrorKind::WriteZero))
 }

@@ -3,6 +3,7 @@
 // written, and a node is looked at by its own check and by its parent's alone. Work is linear: a multi or multi_a that
 // passes names at most 999 keys.
 #![tactic(auto)]
+
 ghost use Rattle.std.specs.Prelude.{◌≡◌, ◌+◌, ◌*◌, ◌≤◌, ◌<◌, eqb, length};
 ghost use Rattle.base_input.specs.Numbers.{bool_number};
 ghost use Rattle.correctness.specs.Rules.{threshold};

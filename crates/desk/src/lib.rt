@@ -49,7 +49,7 @@ enum Sent {
 }
 
 // The bytes that a turn laid out, at the front of the output, written: a write that is cut short goes on.
-fn write_front(out: &[u8], hand: Hand) -> Sent
+fn write_front(rt: HostRuntime, out: &[u8], hand: Hand) -> Sent
     requires { hand.used ≤ length out.now }
     ensures { Sends result (λ (left : Hand). left ≡ laid hand hand.next 0) }
 {
@@ -57,7 +57,7 @@ fn write_front(out: &[u8], hand: Hand) -> Sent
     let mut left = hand;
     while left.used > 0 {
         let from = to - left.used;
-        let wrote = calls::write(&out[from..to]);
+        let wrote = calls::write(rt, &out[from..to]);
         if calls::has_failed(wrote) {
             return Sent::Failed(wrote);
         }
@@ -68,6 +68,7 @@ fn write_front(out: &[u8], hand: Hand) -> Sent
 
 // Turn after turn of the clerk, each written, until nothing is owed for this part of the input.
 fn write_out(
+    rt: HostRuntime,
     hand: Hand,
     input: &[u8; 4096],
     n: usize,
@@ -83,7 +84,7 @@ fn write_out(
 {
     let mut held = clerk::turn(hand, input, n, script, tokens, nodes, keys, work, out);
     while held.used > 0 {
-        match write_front(out, held) {
+        match write_front(rt, out, held) {
             Sent::All(left) => {
                 held = clerk::turn(left, input, n, script, tokens, nodes, keys, work, out);
             }
@@ -95,6 +96,7 @@ fn write_out(
 
 // One part of the input, with the line that was open before it: answered and written.
 fn answer_part(
+    rt: HostRuntime,
     line: Line,
     part: Part,
     input: &[u8; 4096],
@@ -110,11 +112,12 @@ fn answer_part(
 {
     let n = calls::size(part);
     let hand = clerk::receive(line, n, script, tokens, nodes, keys, work);
-    write_out(hand, input, n, script, tokens, nodes, keys, work, out)
+    write_out(rt, hand, input, n, script, tokens, nodes, keys, work, out)
 }
 
 // Standard input, part by part to its end, with these tables.
 fn serve(
+    rt: HostRuntime,
     script: &mut [u8; 520],
     tokens: &mut [u32; 3120],
     nodes: &mut [u32; 4608],
@@ -128,8 +131,8 @@ fn serve(
     let mut line = Line::Nothing;
     let mut part = calls::begin();
     while !calls::has_ended(part) {
-        part = calls::next(part, &mut input);
-        match answer_part(line, part, &input, script, tokens, nodes, keys, work, out) {
+        part = calls::next(rt, part, &mut input);
+        match answer_part(rt, line, part, &input, script, tokens, nodes, keys, work, out) {
             Sent::All(hand) => {
                 line = hand.line;
             }
@@ -140,7 +143,7 @@ fn serve(
 }
 
 // Answers standard input line by line to its end.
-pub fn run() -> End
+pub fn run(rt: HostRuntime) -> End
     ensures { Stops result }
 {
     let mut script = [0u8; 520];
@@ -150,6 +153,7 @@ pub fn run() -> End
     let mut work = [0u64; 1024];
     let mut out = [0u8; 8192];
     serve(
+        rt,
         &mut script,
         &mut tokens,
         &mut nodes,

@@ -1,6 +1,7 @@
 // The node table as a lent slice of records, over the flat table with nine numbers for a node. The flat table is what the
 // decoder works on; a caller who wants records has them copied out of it, and one who has records has them copied in.
 #![tactic(auto)]
+
 ghost use Rattle.std.specs.Prelude.{◌≡◌, ◌*◌, ◌≤◌, ◌<◌, length, set, get_or};
 ghost use Rattle.node_records.specs.Records.{zero_record, record_at, record_table, written_over};
 

@@ -1,6 +1,7 @@
 // decode.rs's loop over lent tables. One step takes one entry off the work list: its row is read (crate `rows`), the node
 // that it asks for is judged (crate `judge`), and only then anything is written (crate `perform`).
 #![tactic(auto)]
+
 ghost use Rattle.std.specs.Prelude.{◌≡◌, ◌*◌, ◌≤◌, length};
 ghost use mathlib.Core.List.{[], reverse_aux};
 ghost use Rattle.standard.specs.Machine.{decode};
