@@ -1,5 +1,6 @@
 // A text in hexadecimal, as the test programs hold their scripts.
 #![tactic(auto)]
+
 ghost use Rattle.hex_text.specs.HexText.{Unhexes};
 
 // The bytes at the front of a text in hexadecimal, put at the front of dst; how many there are.

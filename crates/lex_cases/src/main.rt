@@ -1,5 +1,6 @@
 // Runs the lexer on document 01's scripts that are its matter and on the edges of its rules, and writes for each: the script, number, place and tokens, then each token's code, number and place. At the end, the room that some scripts need.
 #![tactic(auto)]
+
 use lex::{Ample, Answer};
 use printing::{line, long, space, word};
 

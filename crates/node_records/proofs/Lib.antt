@@ -1,5 +1,3 @@
--- Laws of the two loops, and steps that the walks share.
-pub mod Again
-pub mod Place
+-- Laws of the two loops.
 pub mod Copied
 pub mod Stored

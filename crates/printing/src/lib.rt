@@ -1,6 +1,7 @@
 // What the test programs write to standard output: numbers in hexadecimal, and the numbers of an answer. No contract of the kit says
 // which bytes a write wrote, so what writes ensures nothing: it is proved not to go wrong, and held to the programs' stored output.
 #![tactic(auto)]
+
 ghost use Rattle.std.specs.Prelude.{◌≡◌};
 
 pub fn word(x: u32) -> u64
