@@ -3,7 +3,7 @@
  *
  * The functions stand in a static library that the Rattle toolchain proves and builds:
  *
- *     rt staticlib exports          writes target/staticlib/libexports.a
+ *     tests/staticlib exports       writes target/staticlib/libexports.a
  *     cc program.c -Iinclude target/staticlib/libexports.a
  *
  * Each function gives an answer for any kind, any bytes and any sizes of tables, 0 included; what it answers and what every table holds

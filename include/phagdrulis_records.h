@@ -3,8 +3,8 @@
  *
  * Each function stands in a static library of its own:
  *
- *     rt staticlib read_records     writes target/staticlib/libread_records.a
- *     rt staticlib encode_records   writes target/staticlib/libencode_records.a
+ *     tests/staticlib read_records     writes target/staticlib/libread_records.a
+ *     tests/staticlib encode_records   writes target/staticlib/libencode_records.a
  *
  * What phagdrulis.h says of its functions and of what a caller owes holds here too. The flat node table that the core works
  * with is lent beside the records; how much it holds is counted in numbers, nine for a record.

@@ -1,4 +1,4 @@
-//! Links the proved static library. `rt staticlib exports` writes it, to target/staticlib/libexports.a of the repository;
+//! Links the proved static library. `tests/staticlib exports` writes it, to target/staticlib/libexports.a of the repository;
 //! PHAGDRULIS_LIBRARY names another folder to look in.
 
 use std::env;
@@ -13,7 +13,7 @@ fn main() {
     let archive = folder.join("libexports.a");
     println!("cargo:rerun-if-changed={}", archive.display());
     if !archive.is_file() {
-        panic!("{} isn't there: `rt staticlib exports` in the repository's root writes it", archive.display());
+        panic!("{} isn't there: `tests/staticlib exports` in the repository's root writes it", archive.display());
     }
     println!("cargo:rustc-link-search=native={}", folder.display());
     println!("cargo:rustc-link-lib=static=exports");

@@ -1,5 +1,6 @@
 // The reader that intake calls: a script lexed, decoded (crate `run`), and the tables left as document 01 has them.
 #![tactic(auto)]
+
 ghost use Rattle.std.specs.Prelude.{◌≡◌, ◌*◌, ◌/◌, ◌≤◌, length};
 ghost use Rattle.tables.specs.Tables.{zeros};
 ghost use Rattle.lex.specs.declared.Answer.TheVariants as lexing;

@@ -66,8 +66,7 @@ fn encode_front(
 // Writes the script of the tree that the records hold: its kind (0 segwit, 1 tapscript), the records, a flat table with
 // room for nine numbers a record, the key table, the bytes that keys and hashes are taken from, a work table and the output
 // in; the answer out. Answer and output are those of `encode::encode` on the records' numbers.
-#[unsafe(no_mangle)]
-pub extern "C" fn encode_records(
+pub fn encode_records(
     kind: u32,
     records: &[Node],
     flat: &mut [u32],

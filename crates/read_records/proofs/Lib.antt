@@ -1,3 +1,2 @@
--- Laws of the flat part, and steps of the walk.
-pub mod Shared
+-- Laws of the flat part.
 pub mod RecordLaws

@@ -55,8 +55,7 @@ pub fn nodes_of(r: Answer) -> usize
 
 // Reads a script: its kind (0 segwit, 1 tapscript), its bytes, and five lent tables in; the answer out. The tables end as
 // document 01 has them, whatever they held before; the records are the nodes of the flat table, and zero records behind.
-#[unsafe(no_mangle)]
-pub extern "C" fn read_records(
+pub fn read_records(
     kind: u32,
     script: &[u8],
     tokens: &mut [u32],

@@ -1,6 +1,7 @@
 // The encoder's writing pass, over a node table that has passed its checks: one run from the last node to the first, with a
 // work list of the pieces still to be written.
 #![tactic(auto)]
+
 ghost use Rattle.std.specs.Prelude.{◌≡◌, ◌++◌, ◌-◌, ◌%◌, length, drop, get_or};
 ghost use Rattle.encoding.specs.Encoding.{tree_in};
 ghost use Rattle.write_script.specs.Writing.{bytes_of, Writable};

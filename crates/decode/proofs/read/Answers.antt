@@ -1,0 +1,13 @@
+-- `decode::read` meets its contract.
+use Rattle.decode.proofs.ReadLaws.{unknown_kind, not_lexed, read_on_lem, lexes_not}
+use Rattle.decode.proofs.read.Goals as goal
+use mathlib.Core.Path.{refl}
+
+pub returns-then-kind-gt1 : goal.returns-then-kind-gt1
+returns-then-kind-gt1 c = unknown_kind c.args.kind c.args.script.now c.args.tokens.now c.args.nodes.now c.args.keys.now c.args.work.now c.if-kind-gt1.true c.refused.result _ _ _ _ c.refused.ensures c.clear-then-kind-gt1.ensures c.clear.ensures c.clear-2.ensures c.clear_work.ensures
+
+pub returns-in-Tokens : goal.returns-in-Tokens
+returns-in-Tokens c = read_on_lem c.args.kind c.args.script.now c.args.tokens.now c.args.nodes.now c.args.keys.now c.args.work.now c.if-kind-gt1.false _ c.lex-lexed.new.t c.clear.new.t c.clear-2.new.t c.args.work.now c.lex-lexed.auto.t c.clear.auto.t c.clear-2.auto.t refl c.decoded.ensures
+
+pub returns-in-Refused : goal.returns-in-Refused
+returns-in-Refused c = not_lexed c.args.kind c.args.script.now c.args.tokens.now c.args.nodes.now c.args.keys.now c.args.work.now c.if-kind-gt1.false _ _ c.refused-in-Refused.result _ _ _ _ (lexes_not c.args.script.now c.args.tokens.now c.lex-lexed.new.t _ _ c.lex-lexed.ensures c.in-Refused.is) c.refused-in-Refused.ensures c.clear.ensures c.clear-2.ensures c.clear_work-in-Refused.ensures
