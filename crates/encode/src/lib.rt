@@ -2,6 +2,7 @@
 // written: the checks (crate `closing`), the length (crate `script_length`), the room. Then one pass writes the bytes
 // (crate `write_script`).
 #![tactic(auto)]
+
 ghost use Rattle.std.specs.Prelude.{◌≡◌, ◌≤◌, ◌<◌, length};
 ghost use Rattle.encoding.specs.Encoding.{node_count, encoding_of};
 ghost use Rattle.encode.specs.Encode.{answer, answer_of, outcome_at};

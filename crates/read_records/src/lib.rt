@@ -1,6 +1,7 @@
 // The reader for callers who lend a slice of node records: `decode::read` on the flat tables, and its nodes copied out. The
 // flat node table that the decoder works on is lent beside the records.
 #![tactic(auto)]
+
 ghost use Rattle.std.specs.Prelude.{◌≡◌, ◌++◌, ◌-◌, ◌*◌, ◌≤◌, length, take};
 ghost use Rattle.tables.specs.Tables.{zeros};
 ghost use Rattle.decode.specs.Read.{lengths_of, outcome_at};

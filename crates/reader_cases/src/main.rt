@@ -5,6 +5,7 @@
 // The stored output is not taken from this program: tests/reader_cases.py writes it with a reader of its own, and finds by
 // trying the least room of each table with which a script's answer stays the same.
 #![tactic(auto)]
+
 use decode::Answer;
 use printing::{line, space, word};
 

@@ -3,6 +3,7 @@
 // What a line means is proved in `hex_line`, what a script is read to in `decode`, the bytes of a listing in `listing`. Here they meet: the
 // header that is answered and the tables that are left lay out as exactly the text that Program.antt says.
 #![tactic(auto)]
+
 ghost use Rattle.std.specs.Prelude.{◌≡◌, ◌%◌, ◌≤◌, length, take};
 ghost use Rattle.listing.specs.Listing.{listing};
 ghost use Rattle.standard.specs.Outcome.{outcome_of};
