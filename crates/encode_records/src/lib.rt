@@ -1,6 +1,7 @@
 // The encoder for callers who have node records: they are copied into a flat node table, which is lent beside them, and
 // `encode::encode` writes the script of its front. The flat table is scratch, as the work table is: both end as zeros.
 #![tactic(auto)]
+
 ghost use Rattle.std.specs.Prelude.{◌≡◌, length};
 ghost use Rattle.encode.specs.Encode.{answer_of, answer};
 ghost use Rattle.encode_records.specs.RecordEncoding.{short, no_room, copied_into, front_encoding, record_encoding, record_encoding_at};

@@ -11,6 +11,7 @@
 // Where a job's first line has three numbers more, each after a blank, they are other sizes for both and how many numbers of
 // the node table lie behind the last whole node. All numbers are hexadecimal. Jobs beyond these limits are not answered.
 #![tactic(auto)]
+
 ghost use Rattle.std.specs.Prelude.{◌≤◌, ◌<◌, ◌≡◌, length};
 
 use encode::Encoded;
