@@ -6,6 +6,7 @@
 // Program.antt says of the whole input, however it came cut into parts (ProgramLaws), and the line that a part leaves open goes on with the
 // next.
 #![tactic(auto)]
+
 ghost use Rattle.std.specs.Prelude.{◌≡◌, List, ◌++◌, ℕ, ◌-◌, ◌≤◌, ◌<◌, length, take, drop};
 ghost use Rattle.hex_line.specs.Feeding.{fed, told_in, left_by};
 ghost use Rattle.reply.specs.Program.{texts_of};

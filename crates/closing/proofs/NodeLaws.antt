@@ -23,7 +23,7 @@ use Rattle.standard.specs.Tree.{Leaf, True, False, PkK, RawPkH, After, Older, Ha
 use Rattle.standard.specs.Allowed.{within, all_multi_a_keys, multi_a_threshold}
 use Rattle.standard.specs.Types.{wrapper_rule, combination_rule, AllTyped, ruled, type_of}
 use Rattle.standard.specs.Table.{Node, node_at, Terminal, noTerminal, isTrue, isFalse, isPkK, isRawPkH, isAfter, isOlder, is_hash, is_wrapper, is_combination, isAndOr, isThresh, isMulti, isMultiA, terminal_of, take_trees, datas_at, multi_a_of, wrap_top, join_top, and_or_top, thresh_top, add_terminal, add_node}
-use Rattle.standard.specs.TableLaws.{datas_at_length}
+use Rattle.standard.proofs.TableLaws.{datas_at_length}
 use Rattle.judge.specs.Nodes.{leaf_of, cast_of, combination_of}
 use Rattle.encoding.specs.Form.{Shape, shape_of, unused_are_zero, in_range, child_count, formed_as, keys_named, well_formed}
 use Rattle.encoding.specs.Values.{value_refusal_of, value_refusal}

@@ -14,7 +14,7 @@ use Rattle.tables.specs.Choose.{pick}
 use Rattle.tables.specs.Tables.{newest}
 use Rattle.tables.proofs.NewestLaws.{newest_length, newest_drop}
 use Rattle.standard.specs.Tree.{Tree, Trees, nil, ◌⊳◌, many, size, sizes}
-use Rattle.standard.specs.TreeLaws.{size_some}
+use Rattle.standard.proofs.TreeLaws.{size_some}
 use Rattle.standard.specs.Types.{all, and_then, type_of, types_of}
 use Rattle.standard.specs.Table.{Node, node_at}
 use Rattle.judge.specs.Nodes.{held_type, top_node}

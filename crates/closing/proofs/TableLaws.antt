@@ -14,7 +14,7 @@ use Rattle.correctness.specs.declared.Typed.TheVariants.{Is}
 use Rattle.tables.specs.Choose.{pick}
 use Rattle.tables.specs.Tables.{newest}
 use Rattle.standard.specs.Tree.{Tree, Trees, nil, ◌⊳◌}
-use Rattle.standard.specs.TreeLaws.{size_some}
+use Rattle.standard.proofs.TreeLaws.{size_some}
 use Rattle.standard.specs.Types.{type_of}
 use Rattle.standard.specs.Table.{node_cells, node_at}
 use Rattle.judge.specs.NodeTable.{size_at}

@@ -16,9 +16,9 @@ use Rattle.standard.specs.Machine.{Refusal, refused, ends, decode}
 use Rattle.standard.specs.Outcome.{Lengths, Outcome, token_room, limits_of, place_of, refusing, accepting, outcome_of, ample_for}
 use Rattle.standard.specs.Examples.{Told, no, twelve_told}
 use Rattle.standard.specs.RowForm.{row_form}
-use Rattle.standard.specs.PlaceLaws.{bares}
-use Rattle.standard.specs.TypesAgree.{letters_of, types_agree_in_segwit}
-use Rattle.standard.specs.Demand3.{AmpleLengths, WrittenWithTokens, HandedOut, accepted_is_handed_out, handed_out_reads_back, accepted_exactly, steps_by_tokens, refusal_clears}
+use Rattle.standard.proofs.PlaceLaws.{bares}
+use Rattle.standard.proofs.TypesAgree.{letters_of, types_agree_in_segwit}
+use Rattle.standard.proofs.Demand3.{AmpleLengths, WrittenWithTokens, HandedOut, accepted_is_handed_out, handed_out_reads_back, accepted_exactly, steps_by_tokens, refusal_clears}
 use Rattle.one_script.specs.OneScript.{same_tree_same_segwit_script}
 use Rattle.decode.specs.declared.Answer.{Answer}
 use Rattle.decode.specs.Read.{outcome_at}
@@ -137,7 +137,7 @@ module _ (kind : ℕ) (script : List ℕ) (lengths : Lengths) (call : ReadCall k
       let f : (outcome_of kind script lengths).answer.steps ≤ 8 * (outcome_of kind script lengths).answer.tokens + 2 = steps_by_tokens kind script lengths in
       rw (s, t) f
 
--- types: in segwit BIP 379's, letter for letter; in tapscript but for d: (standard/specs/TypesAgree.antt)
+-- types: in segwit BIP 379's, letter for letter; in tapscript but for d: (standard/proofs/TypesAgree.antt)
 pub types_are_bip379s : (t : Tree) → letters_of (type_of true t) ≡ bip_type true t
 types_are_bip379s t = types_agree_in_segwit t
 

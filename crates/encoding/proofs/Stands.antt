@@ -7,7 +7,7 @@ use Prim.Native.Nat.{ℕ, suc, ◌+◌}
 use native.Mathlib.Omega.{arith}
 use lib.ListN.{length, drop}
 use Rattle.standard.specs.Tree.{Tree, Trees, nil, ◌⊳◌, ◌⊕◌, many, size, sizes}
-use Rattle.standard.specs.TreeLaws.{sizes_append}
+use Rattle.standard.proofs.TreeLaws.{sizes_append}
 use Rattle.standard.specs.Table.{Node}
 use Rattle.forest.specs.Forest.{children}
 use Rattle.encoding.proofs.Passed.{Passed, made_of, size_of_children, append_trees}

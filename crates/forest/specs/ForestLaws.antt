@@ -11,7 +11,7 @@ use Rattle.standard.specs.Tree.{Leaf, Wrapper, Combination, Tree, Trees, leaf, w
 use Rattle.standard.specs.Allowed.{allowed_leaf, leaf_refusal, thresh_allowed}
 use Rattle.standard.specs.Types.{typed_leaf, type_of, Judged, passes, fails, by_rule, judge}
 use Rattle.standard.specs.Table.{Node, node, leaf_kind, wrapper_kind, combination_kind, leaf_offsets, key_table, root_node}
-use Rattle.standard.specs.TableLaws.{key_table_length}
+use Rattle.standard.proofs.TableLaws.{key_table_length}
 use Rattle.judge.specs.Nodes.{held_type, top_node, new_leaf, Making, makes, refuses, making, parent, reduce_one, reduce_two, reduce_three, reduce_many}
 use Rattle.forest.specs.Forest.{children, preorders, leaf_number, leaf_count, leaf_place, kind_of, number_of, count_of, place_of, own_keys, HasType, AllHaveTypes, Forest, Agrees}
 use Rattle.forest.specs.PreorderLaws.{root_node_lem, new_root, preorders_length, top_type_lem}
@@ -88,7 +88,7 @@ module _ (segwit : Bool) where
       pub agrees : {made : Making} → made ≡ making (type_of segwit t) (parent (kind_of t) (number_of t) (count_of t) (size t)) → Agrees segwit nodes keys done t made
       agrees e = subst (Agrees segwit nodes keys done t) (sym e) (rule_agrees (type_of segwit t) refl)
 
-  -- the values of a node that are tested before its type; a leaf whose values are allowed passes: `leaf_passes` of standard/specs/Complete.antt
+  -- the values of a node that are tested before its type; a leaf whose values are allowed passes: `leaf_passes` of standard/proofs/Complete.antt
 
   pub leaf_refused : (l : Leaf) → allowed_leaf segwit l ≡ false → judge segwit (leaf l) ≡ fails (leaf_refusal segwit l) 0
   leaf_refused l e = ap (λ (b : Bool). pick b passes (fails (leaf_refusal segwit l) 0)) e

@@ -3,7 +3,7 @@ use Rattle.std.specs.Prelude.{◌≡◌, refl, List, ◌++◌, ℕ}
 use Rattle.std.proofs.Common.{sym, ap, ◌∙◌, append_assoc, append-nil}
 use Rattle.standard.specs.Tree.{Tree, Trees, leaf, wrap, join, and_or, thresh, ◌⊳◌, ◌⊕◌}
 use Rattle.standard.specs.Table.{keys_of, key_table}
-use Rattle.standard.specs.TableLaws.{key_table_append}
+use Rattle.standard.proofs.TableLaws.{key_table_append}
 use Rattle.forest.specs.Forest.{children, own_keys}
 
 own_keys_last : (t : Tree) → keys_of t ≡ key_table (children t) ++ own_keys t

@@ -11,7 +11,7 @@ use Rattle.correctness.specs.declared.Typed.{Typed}
 use Rattle.correctness.specs.declared.Typed.TheVariants.{Is, Not}
 use Rattle.correctness.specs.Rules.{made}
 use Rattle.standard.specs.Tree.{Leaf, True, False, PkK, RawPkH, After, Older, HashLock, Multi, MultiA, Tree, Trees, leaf, wrap, join, and_or, thresh, nil, ◌⊳◌, ◌⊕◌, many, size, sizes, key_count, key_counts}
-use Rattle.standard.specs.TreeLaws.{keys_append}
+use Rattle.standard.proofs.TreeLaws.{keys_append}
 use Rattle.standard.specs.Types.{type_of}
 use Rattle.standard.specs.Table.{Node, node, root_node, nodes_of, nodes_from}
 use Rattle.judge.specs.Nodes.{held_type, top_node, under_top}

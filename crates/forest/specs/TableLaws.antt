@@ -6,8 +6,8 @@ use Rattle.tables.specs.Tables.{flat, newest}
 use Rattle.tables.proofs.NewestLaws.{newest_length}
 use Rattle.standard.specs.Tree.{Tree, Trees, nil, ◌⊳◌, ◌⊕◌, many, size, sizes, key_counts}
 use Rattle.standard.specs.Table.{Node, cells, root_node, nodes_from, node_table}
-use Rattle.standard.specs.TreeLaws.{size_some}
-use Rattle.standard.specs.TableLaws.{node_table_length}
+use Rattle.standard.proofs.TreeLaws.{size_some}
+use Rattle.standard.proofs.TableLaws.{node_table_length}
 use Rattle.judge.specs.Nodes.{top_node, under_top}
 use Rattle.judge.specs.NodeTable.{node_at, size_at, Subtrees, Finished}
 use Rattle.judge.specs.NodeTableLaws.{top_read, under_read, table_read}

@@ -10,8 +10,8 @@ use Rattle.standard.specs.Allowed.{within, allowed_leaf, leaf_refusal}
 use Rattle.standard.specs.Rows.{NonTerm, Expression, WExpression, MaybeAndV, AndV, Alt, Swap, EndIf, EndIfNotIf, EndIfElse, Tern, Reduce1, Reduce2, ThreshW, ThreshE, Asks, noneLeft, reduces3, refuses, enters, makes, reduces1, reduces2, reduces_many, Found, found, row_of}
 use Rattle.standard.specs.Machine as machine
 use Rattle.standard.specs.Machine.{finish, step}
-use Rattle.standard.specs.Sound.{Good}
-use Rattle.standard.specs.TreeLaws.{many_sizes, many_append}
+use Rattle.standard.proofs.Sound.{Good}
+use Rattle.standard.proofs.TreeLaws.{many_sizes, many_append}
 use Rattle.row.specs.Request.{Request, refused, many_children, asked, reading_asked, leaf_asked}
 use Rattle.judge.specs.NodeTable.{node_at, Finished}
 use Rattle.forest.specs.Forest.{Forest}

@@ -11,9 +11,9 @@ use Rattle.standard.specs.Table.{Node, leaf_kind, wrapper_kind, combination_kind
 use Rattle.standard.specs.Rows.{NonTerm, Asks, noneLeft, reduces3, refuses, enters, makes, reduces1, reduces2, reduces_many, Found, found, row_of}
 use Rattle.standard.specs.Machine as machine
 use Rattle.standard.specs.Machine.{State, refusal, Limits, finish, step}
-use Rattle.standard.specs.Sound.{Good, take_all}
-use Rattle.standard.specs.TableLaws.{leaf_keys_length}
-use Rattle.standard.specs.Complete.{leaf_passes}
+use Rattle.standard.proofs.Sound.{Good, take_all}
+use Rattle.standard.proofs.TableLaws.{leaf_keys_length}
+use Rattle.standard.proofs.Complete.{leaf_passes}
 use Rattle.row.specs.Request.{Request, asked, reading_asked, leaf_asked}
 use Rattle.judge.specs.Nodes.{Making, new_leaf, reduce_one, reduce_two, reduce_three, reduce_many}
 use Rattle.judge.specs.Nodes as judging

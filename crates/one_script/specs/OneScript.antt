@@ -7,7 +7,7 @@ use Rattle.spelling.specs.Lexemes.{lexemes, Spells, NoNumEqualVerify}
 use Rattle.spelling.proofs.ScriptSpelling.{lexed_is_spelled, same_lexemes_same_bytes, same_lexemes_same_script}
 use Rattle.standard.specs.Tree.{SameTree}
 use Rattle.standard.specs.Outcome.{Lengths, token_room}
-use Rattle.standard.specs.Demand3.{HandedOut, same_tree_same_tokens}
+use Rattle.standard.proofs.Demand3.{HandedOut, same_tree_same_tokens}
 use Rattle.one_script.specs.SegwitSpelling.{free, segwit_free, free_spelling}
 
 module _ (kind : ℕ) (script other : List ℕ) (lengths otherLengths : Lengths) (bytes : Bytes script) (otherBytes : Bytes other) (h : HandedOut kind script lengths) (g : HandedOut kind other otherLengths) where

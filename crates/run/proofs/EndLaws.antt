@@ -24,8 +24,8 @@ use Rattle.standard.specs.Tree.{Tree, Trees, nil, ◌⊳◌, sizes}
 use Rattle.standard.specs.Table.{Node, cells, node_table, key_table}
 use Rattle.standard.specs.Machine as machine
 use Rattle.standard.specs.Machine.{Limits, Refusal, refusal, Run, ends, accepted, refused, carry_on, decode, closes, top_is, start}
-use Rattle.standard.specs.TreeLaws.{size_some}
-use Rattle.standard.specs.Sound.{Good, end_good}
+use Rattle.standard.proofs.TreeLaws.{size_some}
+use Rattle.standard.proofs.Sound.{Good, end_good}
 use Rattle.row.specs.Tokens.{lexemes_left}
 use Rattle.judge.specs.Nodes.{top_node, held_type}
 use Rattle.judge.specs.NodeTable.{node_at}

@@ -17,9 +17,9 @@ use Rattle.standard.specs.Allowed.{within}
 use Rattle.standard.specs.Rows.{NonTerm, Expression, MaybeAndV}
 use Rattle.standard.specs.Machine as machine
 use Rattle.standard.specs.Machine.{Limits, Refusal, refusal, Run, ends, refused, carry_on, decode, start}
-use Rattle.standard.specs.Sound.{Good, start_good, step_good}
-use Rattle.standard.specs.Bound.{pushes, to_step, to_make, Less, step_less, Bounded, begin_bounded, step_bounded}
-use Rattle.standard.specs.Reads.{never_empty}
+use Rattle.standard.proofs.Sound.{Good, start_good, step_good}
+use Rattle.standard.proofs.Bound.{pushes, to_step, to_make, Less, step_less, Bounded, begin_bounded, step_bounded}
+use Rattle.standard.proofs.ReadLexemes.{never_empty}
 use Rattle.row.specs.Tokens.{lexemes_left}
 use Rattle.judge.specs.NodeTable.{node_at}
 use Rattle.work_list.specs.Work.{entry_at, work_of}

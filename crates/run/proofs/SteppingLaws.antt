@@ -14,9 +14,9 @@ use Rattle.standard.specs.Tree.{Trees, nil, ◌⊳◌, ◌⊕◌, many, sizes, k
 use Rattle.standard.specs.Rows as rows
 use Rattle.standard.specs.Machine as machine
 use Rattle.standard.specs.Machine.{Limits}
-use Rattle.standard.specs.TreeLaws.{many_sizes, many_append}
-use Rattle.standard.specs.Sound.{Good}
-use Rattle.standard.specs.Bound.{pushes, pushes_le}
+use Rattle.standard.proofs.TreeLaws.{many_sizes, many_append}
+use Rattle.standard.proofs.Sound.{Good}
+use Rattle.standard.proofs.Bound.{pushes, pushes_le}
 use Rattle.row.specs.declared.NonTerm.{NonTerm}
 use Rattle.row.specs.declared.NonTerm.TheVariants as non-term
 use Rattle.row.specs.Tokens.{InTable, token_at, lexemes_left}

@@ -8,10 +8,10 @@ use Rattle.lex.specs.Token.{Bytes, Data, data_length, Lexeme, op, num, push, HAS
 use Rattle.spelling.specs.Lexemes.{Formed, AllFormed}
 use Rattle.tables.proofs.BoolLaws.{left_true, right_true}
 use Rattle.standard.specs.Tree.{Key, key, Hash, sha256, hash256, ripemd160, hash160, Leaf, True, False, PkK, RawPkH, After, Older, HashLock, Multi, MultiA, Wrapper, alt, swap, check, dupIf, verify, nonZero, zeroNotEqual, Combination, and_v, and_b, or_b, or_d, or_c, or_i, Tree, Trees, leaf, wrap, join, and_or, thresh, nil, ◌⊳◌, many, size, sizes}
-use Rattle.standard.specs.TreeLaws.{size_some, many_sizes}
+use Rattle.standard.proofs.TreeLaws.{size_some, many_sizes}
 use Rattle.standard.specs.Written.{hash_opcode, hash_push, keys_before, added_keys_before, leaf_before, opening, closing, first, between, last, tree_before, added_trees_before, written}
 use Rattle.standard.specs.Allowed.{within, key_form, multi_key, all_multi_keys, multi_count, multi_a_threshold, allowed_leaf, thresh_allowed, allowed, all_allowed}
-use Rattle.standard.specs.RuleLaws.{within_range}
+use Rattle.standard.proofs.RuleLaws.{within_range}
 use Rattle.there_and_back.specs.Ranged.{DataIn, KeysIn, DatasIn, LeafIn, TreeIn, TreesIn}
 
 -- an opcode of the 27

@@ -14,7 +14,7 @@ use Rattle.tables.proofs.BoolLaws.{left_true, right_true, both_true}
 use Rattle.standard.specs.Tree.{key, sha256, hash256, ripemd160, hash160, True, False, PkK, RawPkH, After, Older, HashLock, Multi, MultiA, Wrapper, Combination, Tree, Trees, leaf, wrap, join, and_or, thresh, nil, ◌⊳◌, many}
 use Rattle.standard.specs.Allowed.{within, key_form, all_multi_keys, all_multi_a_keys, locktime, multi_count, multi_a_threshold, allowed, all_allowed}
 use Rattle.standard.specs.Table.{Node, Terminal, noTerminal, isTrue, isFalse, isPkK, isRawPkH, isAfter, isOlder, is_hash, is_wrapper, is_combination, isAndOr, isThresh, isMulti, isMultiA, terminal_of, take_trees, key_code, key_length, keys_at, datas_at, multi_a_of, wrap_top, join_top, and_or_top, thresh_top, add_terminal}
-use Rattle.standard.specs.TableLaws.{keys_at_length, datas_at_length}
+use Rattle.standard.proofs.TableLaws.{keys_at_length, datas_at_length}
 use Rattle.there_and_back.specs.Ranged.{DataIn, KeysIn, DatasIn, TreeIn, TreesIn}
 use Rattle.encoding.specs.Form.{shape, shape_of, keys_named, all_within, formed_as, well_formed}
 use Rattle.encoding.specs.FormLaws.{in_range_lem, keys_range}

@@ -23,12 +23,12 @@ use Rattle.tables.specs.Choose.{pick}
 use Rattle.tables.specs.Tables.{flat}
 use Rattle.tables.proofs.BoolLaws.{left_true, right_true, both_true}
 use Rattle.standard.specs.Tree.{Key, key, sha256, hash256, ripemd160, hash160, Leaf, True, False, PkK, RawPkH, After, Older, HashLock, Multi, MultiA, Wrapper, alt, swap, check, dupIf, verify, nonZero, zeroNotEqual, Combination, and_v, and_b, or_b, or_d, or_c, or_i, Tree, Trees, leaf, wrap, join, and_or, thresh, nil, ◌⊳◌, ◌⊕◌, many, size, key_count, key_counts}
-use Rattle.standard.specs.TreeLaws.{many_append}
+use Rattle.standard.proofs.TreeLaws.{many_append}
 use Rattle.standard.specs.Allowed.{within, key_form, multi_key, all_multi_keys, all_multi_a_keys, locktime, multi_count, multi_a_threshold, allowed_leaf, thresh_allowed, allowed, all_allowed}
 use Rattle.standard.specs.Types.{typed_leaf, wrapper_rule, combination_rule, AllTyped, all, not_all, and_then, ruled, type_of, types_of, WellTypedB}
-use Rattle.standard.specs.RuleLaws.{onward_is}
+use Rattle.standard.proofs.RuleLaws.{onward_is}
 use Rattle.standard.specs.Table.{Node, node, node_at, node_cells, cells, terminal_of, wrapper_kind, combination_kind, and_or_kind, thresh_kind, leaf_node, root_node, key_places, data_places, keys_of, key_table, nodes_of, nodes_from, node_table, leaf_offsets, key_code, key_length, keys_at, datas_at, add_node, Terminal, isPkK, is_wrapper, is_combination, isAndOr, isThresh, KeysOf, DatasOf, LeafOf}
-use Rattle.standard.specs.TableLaws.{KeyPart, key_read, keys_read_lem, datas_read, part_read, first_part, second_part, one_whole, places_length, data_length_lem, keys_length, key_table_length, wrap_added, join_added, and_or_added, thresh_added, leaf_added}
+use Rattle.standard.proofs.TableLaws.{KeyPart, key_read, keys_read_lem, datas_read, part_read, first_part, second_part, one_whole, places_length, data_length_lem, keys_length, key_table_length, wrap_added, join_added, and_or_added, thresh_added, leaf_added}
 use Rattle.encoding.specs.Form.{Shape, shape, shape_of, unused_are_zero, in_range, all_within, child_count, sizes_of_first, formed_as, well_formed}
 use Rattle.encoding.specs.Values.{value_refusal_of, value_refusal}
 use Rattle.encoding.specs.Checks as checks

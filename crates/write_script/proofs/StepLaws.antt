@@ -12,7 +12,7 @@ use Rattle.tables.specs.Tables.{newest}
 use Rattle.tables.proofs.NewestLaws.{newest_length}
 use Rattle.lex.specs.Token.{Lexeme, op, num, push}
 use Rattle.standard.specs.Tree.{Tree, Trees, nil, ◌⊳◌, ◌⊕◌, many, size, sizes}
-use Rattle.standard.specs.TreeLaws.{many_sizes, many_append, sizes_append}
+use Rattle.standard.proofs.TreeLaws.{many_sizes, many_append, sizes_append}
 use Rattle.standard.specs.Written.{tree_before}
 use Rattle.standard.specs.Table.{Node, node_at}
 use Rattle.forest.specs.Forest.{children}

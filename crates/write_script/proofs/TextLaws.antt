@@ -15,7 +15,7 @@ use Rattle.lex.specs.Token.{ADD, EQUAL, CHECKMULTISIG, NUMEQUAL, CHECKSIG, CHECK
 use Rattle.standard.specs.Tree.{Key, Hash, sha256, hash256, ripemd160, hash160, Wrapper, alt, swap, check, dupIf, verify, nonZero, zeroNotEqual, Combination, and_v, and_b, or_b, or_d, or_c, or_i, Tree, Trees, thresh, nil, ◌⊳◌, ◌⊕◌, many}
 use Rattle.standard.specs.Written.{key_push, tree_before, added_trees_before, keys_before, added_keys_before}
 use Rattle.standard.specs.Table.{Node, Terminal, noTerminal, isTrue, isFalse, isPkK, isRawPkH, isAfter, isOlder, is_hash, is_wrapper, is_combination, isAndOr, isThresh, isMulti, isMultiA, terminals, terminal_of, take_trees, keys_at, datas_at, multi_a_of, thresh_top, add_terminal}
-use Rattle.standard.specs.TableLaws.{keys_at_length}
+use Rattle.standard.proofs.TableLaws.{keys_at_length}
 use Rattle.forest.specs.Forest.{children}
 use Rattle.pieces.specs.Pieces.{Piece, subtree, writes, SUBTREE, constant, tags_of, add_tags, thresh_tags}
 use Rattle.pieces.proofs.EntryLaws.{piece_with}

@@ -3,7 +3,7 @@ use Rattle.perform.specs.View.{room_of}
 use Rattle.row.specs.Tokens.{lexemes_left}
 use Rattle.run.proofs.RunLaws.{Running}
 use Rattle.run.proofs.run.Given as goal
-use Rattle.standard.specs.Bound.{to_step}
+use Rattle.standard.proofs.Bound.{to_step}
 use Rattle.work_list.specs.Work.{work_of}
 use lib.ListN.{length}
 use mathlib.Core.Path.{◌≡◌}

@@ -16,8 +16,8 @@ use Rattle.standard.specs.Tree.{Key, key, sha256, hash256, ripemd160, hash160, L
 use Rattle.standard.specs.Allowed.{key_form, multi_key, all_multi_keys, multi_count, within, allowed_leaf, thresh_allowed, allowed, all_allowed}
 use Rattle.standard.specs.Types.{type_of}
 use Rattle.standard.specs.Table.{Node, node_cells, cells, node, key_places, data_places, leaf_offsets, keys_of, key_table, wrapper_kind, combination_kind, and_or_kind, thresh_kind, leaf_node, root_node, nodes_of, nodes_from, node_table, key_code, key_length, keys_at, datas_at, multi_a_of, terminal_of, add_node, trees_of, the_tree, tree_of, DataOf, KeysOf, DatasOf, LeafOf, TreeOf, TreesOf}
-use Rattle.standard.specs.Sound.{take_all}
-use Rattle.standard.specs.TreeLaws.{keys_append}
+use Rattle.standard.proofs.Sound.{take_all}
+use Rattle.standard.proofs.TreeLaws.{keys_append}
 
 -- How many entries
 

@@ -17,9 +17,9 @@ use Rattle.standard.specs.Allowed.{within}
 use Rattle.standard.specs.Types.{type_of}
 use Rattle.standard.specs.Rows.{NonTerm, Expression, MaybeAndV}
 use Rattle.standard.specs.Machine.{State, Refusal, refusal, Next, goes, stops, goes_on, step, Limits, fitting, step_within, start, after, Verdict, accepted, refused, Run, ends, top_is, closes, when_empty, carry_on, decode, never}
-use Rattle.standard.specs.Sound.{Good, Passed, start_good, step_good, end_good}
-use Rattle.standard.specs.Runs.{begin, run}
-use Rattle.standard.specs.Bound.{pushes, Bounded, begin_bounded, step_bounded, work_le}
+use Rattle.standard.proofs.Sound.{Good, Passed, start_good, step_good, end_good}
+use Rattle.standard.proofs.Runs.{begin, run}
+use Rattle.standard.proofs.Bound.{pushes, Bounded, begin_bounded, step_bounded, work_le}
 
 -- The limits only refuse, by 15, 16 or 17
 

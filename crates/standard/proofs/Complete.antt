@@ -16,16 +16,16 @@ use Rattle.tables.specs.Choose.{pick}
 use Rattle.tables.proofs.BoolLaws.{left_true, right_true}
 use Rattle.standard.specs.Tree.{Key, key, Hash, sha256, hash256, ripemd160, hash160, Leaf, True, False, PkK, RawPkH, After, Older, HashLock, Multi, MultiA, Wrapper, alt, swap, check, dupIf, verify, nonZero, zeroNotEqual, Combination, and_v, and_b, or_b, or_d, or_c, or_i, Tree, Trees, leaf, wrap, join, and_or, thresh, nil, ◌⊳◌, many, ◌⊕◌, is_and_v_tree, left_nested}
 use Rattle.standard.specs.RowForm.{floats, floated_out, row_form}
-use Rattle.standard.specs.FormLaws.{all_row_form, wrap_form, join_form, and_or_form, thresh_form, all_form, wrap_form_parts, join_form_parts, and_or_form_parts, thresh_form_parts, all_form_parts}
+use Rattle.standard.proofs.FormLaws.{all_row_form, wrap_form, join_form, and_or_form, thresh_form, all_form, wrap_form_parts, join_form_parts, and_or_form_parts, thresh_form_parts, all_form_parts}
 use Rattle.standard.specs.Written.{key_push, hash_opcode, hash_push, keys_before, added_keys_before, leaf_before, opening, closing, first, between, last, tree_before, added_trees_before, written}
 use Rattle.standard.specs.Allowed.{within, key_form, multi_key, multi_a_key, all_multi_keys, all_multi_a_keys, multi_count, multi_a_threshold, allowed_leaf, thresh_allowed, allowed, all_allowed}
 use Rattle.standard.specs.Types.{wrapper_rule, combination_rule, AllTyped, all, not_all, and_then, ruled, type_of, types_of, typed_leaf, passes, judge}
 use Rattle.standard.specs.Rows.{NonTerm, Expression, WExpression, MaybeAndV, AndV, Alt, Swap, EndIf, EndIfNotIf, EndIfElse, Tern, Reduce1, Reduce2, ThreshW, ThreshE, Check, Verify, ZeroNotEqual, OrC, OrD, multi_keys, multiAKeys, inWExpression, inEndIfNotIf, in_thresh_w, afterVerify, put_back, act_at, is_and_v, read_from}
 use Rattle.standard.specs.Machine.{Next, goes_on, step}
-use Rattle.standard.specs.Sound.{take_all}
-use Rattle.standard.specs.RuleLaws.{onward_is, gives_w, takes_w, wrapper_bases, combination_bases, and_or_bases, AllW, threshold_bases, leaf_base, first_dissatisfiable_lem, and_or_dissatisfiable, and_v_associative, wrapper_floats, and_b_floats}
-use Rattle.standard.specs.Runs as runs
-use Rattle.standard.specs.Runs.{begin}
+use Rattle.standard.proofs.Sound.{take_all}
+use Rattle.standard.proofs.RuleLaws.{onward_is, gives_w, takes_w, wrapper_bases, combination_bases, and_or_bases, AllW, threshold_bases, leaf_base, first_dissatisfiable_lem, and_or_dissatisfiable, and_v_associative, wrapper_floats, and_b_floats}
+use Rattle.standard.proofs.Runs as runs
+use Rattle.standard.proofs.Runs.{begin}
 
 -- The tokens of a tree as they are read: last first, in front of `left`
 

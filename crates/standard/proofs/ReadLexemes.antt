@@ -18,12 +18,12 @@ use Rattle.standard.specs.RowForm.{floated_out, row_form}
 use Rattle.standard.specs.Allowed.{within, allowed}
 use Rattle.standard.specs.Types.{type_of, WellTypedB}
 use Rattle.standard.specs.Machine.{State, Limits, Refusal, goes, goes_on, start, after, accepted, refused, Run, ends, top_is, carry_on, decode}
-use Rattle.standard.specs.Runs.{begin, run, one_end}
-use Rattle.standard.specs.Complete.{complete_form}
-use Rattle.standard.specs.PlaceLaws.{bares, bare_type, bare_allowed, replaced}
-use Rattle.standard.specs.FormLaws.{same_row_form}
-use Rattle.standard.specs.Bound.{pushes, Bounded, work_le}
-use Rattle.standard.specs.Carried.{Ample, Ends, EndsAmple, Working, Ended, decode_ends, decode_bounded, decode_more, decode_steps, decode_counts, decode_ample, decode_complete, accepted_run}
+use Rattle.standard.proofs.Runs.{begin, run, one_end}
+use Rattle.standard.proofs.Complete.{complete_form}
+use Rattle.standard.proofs.PlaceLaws.{bares, bare_type, bare_allowed, replaced}
+use Rattle.standard.proofs.FormLaws.{same_row_form}
+use Rattle.standard.proofs.Bound.{pushes, Bounded, work_le}
+use Rattle.standard.proofs.Carried.{Ample, Ends, EndsAmple, Working, Ended, decode_ends, decode_bounded, decode_more, decode_steps, decode_counts, decode_ample, decode_complete, accepted_run}
 
 module _ (segwit : Bool) where
   -- a tree of base B, well typed and allowed, that is written with these lexemes

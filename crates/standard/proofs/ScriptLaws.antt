@@ -15,7 +15,7 @@ use Rattle.standard.specs.Tree.{Key, key, Leaf, True, False, PkK, RawPkH, After,
 use Rattle.standard.specs.Written.{keys_before, added_keys_before, leaf_before, opening, closing, first, between, last, tree_before, added_trees_before, written}
 use Rattle.standard.specs.Table.{DataOf, KeysOf, DatasOf, LeafOf, TreeOf, TreesOf}
 use Rattle.standard.specs.Outcome.{place_at}
-use Rattle.standard.specs.Bound.{key_credit, pushes}
+use Rattle.standard.proofs.Bound.{key_credit, pushes}
 
 -- Numbers of lexing refusals
 

@@ -26,14 +26,14 @@ use Rattle.standard.specs.Types.{type_of, WellTypedB}
 use Rattle.standard.specs.Table.{node_table, key_table, tree_of, TreeOf}
 use Rattle.standard.specs.Machine.{Verdict, accepted, refused, Run, ends, decode}
 use Rattle.standard.specs.Outcome.{Lengths, token_room, limits_of, Outcome, refusing, accepting, judged, lexed, outcome_of, ample_for}
-use Rattle.standard.specs.Bound.{pushes, pushes_le}
-use Rattle.standard.specs.Carried.{Ample}
-use Rattle.standard.specs.Reads.{WrittenWith, Accepts, accepted_is_written, exactly, steps_at_most, never_empty}
-use Rattle.standard.specs.Reads as reads
-use Rattle.standard.specs.RuleLaws.{within_range}
-use Rattle.standard.specs.TableLaws.{read_back}
-use Rattle.standard.specs.PlaceLaws.{bares, same_tree_same_lexemes}
-use Rattle.standard.specs.ScriptLaws.{lexing_numbers, pushes_at_most_bytes, tree_of_script}
+use Rattle.standard.proofs.Bound.{pushes, pushes_le}
+use Rattle.standard.proofs.Carried.{Ample}
+use Rattle.standard.proofs.ReadLexemes.{WrittenWith, Accepts, accepted_is_written, exactly, steps_at_most, never_empty}
+use Rattle.standard.proofs.ReadLexemes as reads
+use Rattle.standard.proofs.RuleLaws.{within_range}
+use Rattle.standard.proofs.TableLaws.{read_back}
+use Rattle.standard.proofs.PlaceLaws.{bares, same_tree_same_lexemes}
+use Rattle.standard.proofs.ScriptLaws.{lexing_numbers, pushes_at_most_bytes, tree_of_script}
 
 -- What is ample: document 01's "2b tokens, 4b nodes, b keys, 16b + 2 work entries", for b bytes
 abbrev pub AmpleLengths : ℕ → Lengths → Type 0

@@ -1,0 +1,15 @@
+-- `clerk::turn` meets its contract. Line after line of the part (TurningLaws); the measure is what is left of it.
+use Prim.Native.Nat.{◌-◌}
+use Rattle.clerk.proofs.TurningLaws.{Turning}
+use Rattle.clerk.proofs.turn.Given as goal
+use Rattle.clerk.specs.Owed.{owed, leaves}
+use lib.ListN.{take}
+use mathlib.Core.List.{◌++◌}
+
+abbrev pub invariant-loop-used : goal.invariant-loop-used
+invariant-loop-used l =
+    Turning (take l.n l.input) l.n (take l.initial.held.used l.initial.out ++ owed l.initial.held (take l.n l.input) l.initial.script l.initial.nodes l.initial.keys) (leaves l.initial.held (take l.n l.input) l.initial.script) l.held l.script l.nodes l.keys l.out
+
+abbrev pub decreases-loop-used : goal.decreases-loop-used
+decreases-loop-used l =
+    l.n - l.held.at
