@@ -10,7 +10,7 @@ use Rattle.hex_line.specs.declared.Line.{Line}
 use Rattle.hex_line.specs.declared.Line.TheVariants.{Nothing}
 use Rattle.hex_line.specs.Meant.{Meant}
 use Rattle.hex_line.specs.Feeding.{Fed, fed, feed_all, of_line, Stopped, stopped, line_fed, told_of, untouched, told_all, told_in, left_by}
-use Rattle.hex_line.specs.FeedingLaws.{line_goes_on, line_ends}
+use Rattle.hex_line.proofs.FeedingLaws.{line_goes_on, line_ends}
 use Rattle.listing.specs.declared.Header.{Header}
 use Rattle.listing.specs.Listing.{listing}
 use Rattle.reply.specs.Program.{text_of, texts_of}

@@ -5,7 +5,7 @@ use Rattle.tables.specs.Tables.{flat}
 use Rattle.hex_line.specs.declared.Line.TheVariants.{Nothing}
 use Rattle.hex_line.specs.Meant.{Meant}
 use Rattle.hex_line.specs.Feeding.{Fed, fed, told_all, told_in, left_by}
-use Rattle.hex_line.specs.FeedingLaws.{input_in_parts, feeding_an_input}
+use Rattle.hex_line.proofs.FeedingLaws.{input_in_parts, feeding_an_input}
 use Rattle.reply.specs.Program.{text_of, texts_of, output_of}
 use Rattle.clerk.specs.Owed.{due}
 

@@ -5,6 +5,4 @@ pub mod Sanity
 pub mod Bip379
 pub mod AndVLaws
 pub mod ShorthandLaws
-pub mod SanityLaws
-pub mod Bip379Laws
 pub mod SubtypeLaws

@@ -8,7 +8,7 @@
 // had failed.
 //
 // After a read that fails the input ends there, so that what came before is answered; after a write that fails nothing more is written, so
-// that no listing is missing between others. A program has no exit status of its own, so it is 0 then too.
+// that no listing is missing between others. The exit status is 0 then too.
 //
 // The bytes that the desk holds, all on the stack:
 //   tokens  1,040 of 3 numbers of 4 bytes   12,480
@@ -18,8 +18,8 @@
 //   script                                     520
 //   input                                    4,096
 //   output                                   8,192
-//   os::fail, while a failure is told        4,160
-//   in all                                  56,584, under 64 KiB (65,536)
+//   calls::tell, while a failure is told     1,536
+//   in all                                  53,960, under 64 KiB (65,536)
 #![tactic(auto)]
 ghost use Rattle.std.specs.Prelude.{◌≡◌, true, false, ◌≤◌, ◌<◌, length, take};
 ghost use Rattle.hex_line.specs.Feeding.{fed, left_by};

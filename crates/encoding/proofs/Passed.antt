@@ -21,7 +21,7 @@ use Rattle.standard.specs.Types.{type_of}
 use Rattle.standard.specs.Table.{Node, Terminal, noTerminal, isTrue, isFalse, isPkK, isRawPkH, isAfter, isOlder, is_hash, is_wrapper, is_combination, isAndOr, isThresh, isMulti, isMultiA, terminal_of, take_trees, datas_at, multi_a_of, wrap_top, join_top, and_or_top, thresh_top, add_terminal, add_node}
 use Rattle.judge.specs.Nodes.{held_type}
 use Rattle.forest.specs.Forest.{children}
-use Rattle.forest.specs.PreorderLaws.{held_back}
+use Rattle.forest.proofs.PreorderLaws.{held_back}
 use Rattle.encoding.specs.Form.{Shape, shape_of, unused_are_zero, in_range, child_count, sizes_of_first, right_size, formed_as, keys_named, well_formed}
 use Rattle.encoding.specs.Values.{value_refusal}
 use Rattle.encoding.specs.Checks.{Checked, finished, refused, holds_type, type_checked, newest_checked, value_checked, check_node}

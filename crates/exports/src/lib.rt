@@ -2,6 +2,7 @@
 // sides lay out the same out. To such a caller a slice is a pointer and a length (include/phagdrulis.h). No entry asks anything of its
 // arguments: the pointers and lengths themselves are all that a caller can get wrong.
 #![tactic(auto)]
+
 ghost use Rattle.std.specs.Prelude.{◌≡◌, length};
 ghost use Rattle.lex.specs.Room.{room_of};
 ghost use Rattle.standard.specs.Outcome.{outcome_of};

@@ -2,3 +2,4 @@
 pub mod DigitLaws
 pub mod FeedLaws
 pub mod FeedLineLaws
+pub mod FeedingLaws

@@ -3,5 +3,4 @@ pub mod Digits
 pub mod Meant
 pub mod Input
 pub mod Feeding
-pub mod FeedingLaws
 pub mod Examples

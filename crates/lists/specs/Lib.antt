@@ -4,5 +4,3 @@ pub mod Small
 pub mod SmallLaws
 pub mod FittingLaws
 pub mod Ready
-pub mod StepLaws
-pub mod ReadyLaws

@@ -31,8 +31,8 @@ use Rattle.judge.specs.Nodes.{top_node, held_type}
 use Rattle.judge.specs.NodeTable.{node_at}
 use Rattle.node_store.specs.Stored.{nodes_in}
 use Rattle.forest.specs.Forest.{Forest}
-use Rattle.forest.specs.ForestLaws.{forest_top}
-use Rattle.forest.specs.TableLaws.{table_is}
+use Rattle.forest.proofs.ForestLaws.{forest_top}
+use Rattle.forest.proofs.TableLaws.{table_is}
 use Rattle.writes.specs.declared.State.{State}
 use Rattle.perform.specs.View.{view_of, room_of, Behind}
 use Rattle.run.specs.declared.Ran.{Ran}

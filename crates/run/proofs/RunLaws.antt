@@ -25,9 +25,9 @@ use Rattle.judge.specs.NodeTable.{node_at}
 use Rattle.work_list.specs.Work.{entry_at, work_of}
 use Rattle.work_list.proofs.WorkLaws.{taken}
 use Rattle.forest.specs.Forest.{Forest}
-use Rattle.forest.specs.ForestLaws.{forest_empty, nodes_counted}
+use Rattle.forest.proofs.ForestLaws.{forest_empty, nodes_counted}
 use Rattle.lists.specs.Lists.{Next, goes, stops, step_by}
-use Rattle.lists.specs.StepLaws.{Same, Tied, step_tied}
+use Rattle.lists.proofs.StepLaws.{Same, Tied, step_tied}
 use Rattle.writes.specs.declared.State.{State}
 use Rattle.writes.specs.declared.Step.{Step}
 use Rattle.writes.specs.declared.Step.TheVariants as step

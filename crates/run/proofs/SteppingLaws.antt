@@ -22,9 +22,9 @@ use Rattle.row.specs.declared.NonTerm.TheVariants as non-term
 use Rattle.row.specs.Tokens.{InTable, token_at, lexemes_left}
 use Rattle.row.specs.Request.{counted, entry_of}
 use Rattle.work_list.specs.Work.{k_of, n_of, in_order, unpacked, entry_at, work_of}
-use Rattle.forest.specs.ForestLaws.{keys_counted}
+use Rattle.forest.proofs.ForestLaws.{keys_counted}
 use Rattle.lists.specs.Small.{SmallK, SmallLexeme, SmallLexemes}
-use Rattle.lists.specs.ReadyLaws.{countable, step_ready}
+use Rattle.lists.proofs.ReadyLaws.{countable, step_ready}
 use Rattle.writes.specs.declared.State.{State}
 use Rattle.perform.specs.View.{view_of, Inside}
 use Rattle.run.specs.Stepping.{Stepping}

@@ -9,9 +9,9 @@ use Rattle.correctness.specs.declared.Typed.TheVariants.{Is, Not}
 use Rattle.correctness.specs.Rules as rules
 use Rattle.correctness.specs.Rules.{given, onward}
 use Rattle.correctness.specs.Sanity.{Sound, SoundAnswer}
-use Rattle.correctness.specs.SanityLaws.{leaf_sound, alt_sound, swap_sound, check_sound, dupif_sound, verify_sound, nonzero_sound, zeronotequal_sound, and_b_sound, or_b_sound, or_d_sound, or_c_sound, and_v_sound, or_i_sound, and_or_sound, threshold_sound}
+use Rattle.correctness.proofs.SanityLaws.{leaf_sound, alt_sound, swap_sound, check_sound, dupif_sound, verify_sound, nonzero_sound, zeronotequal_sound, and_b_sound, or_b_sound, or_d_sound, or_c_sound, and_v_sound, or_i_sound, and_or_sound, threshold_sound}
 use Rattle.correctness.specs.Bip379.{Letters, letters, letters_given, andor_row, threshold_row}
-use Rattle.correctness.specs.Bip379Laws.{leaf_agrees, alt_agrees, swap_agrees, check_agrees, dupif_agrees, dupif_in_tapscript, with_u, verify_agrees, nonzero_agrees, zeronotequal_agrees, and_v_agrees, and_b_agrees, or_b_agrees, or_d_agrees, or_c_agrees, or_i_agrees, and_or_agrees, threshold_agrees}
+use Rattle.correctness.proofs.Bip379Laws.{leaf_agrees, alt_agrees, swap_agrees, check_agrees, dupif_agrees, dupif_in_tapscript, with_u, verify_agrees, nonzero_agrees, zeronotequal_agrees, and_v_agrees, and_b_agrees, or_b_agrees, or_d_agrees, or_c_agrees, or_i_agrees, and_or_agrees, threshold_agrees}
 use Rattle.tables.proofs.BoolLaws.{left_true, right_true}
 use Rattle.standard.specs.Tree.{Wrapper, alt, swap, check, dupIf, verify, nonZero, zeroNotEqual, Combination, and_v, and_b, or_b, or_d, or_c, or_i, Tree, Trees, leaf, wrap, join, and_or, thresh, nil, ◌⊳◌}
 use Rattle.standard.specs.Types.{typed_leaf, wrapper_rule, combination_rule, AllTyped, all, not_all, and_then, ruled, type_of, types_of, bip_wrapper, bip_combination, having, having_both, bip_type, bip_types}

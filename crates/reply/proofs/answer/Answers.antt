@@ -1,5 +1,5 @@
 -- `reply::answer` meets its contract. A refused line or a script that was read, by what the line means (ReplyLaws).
-use Rattle.hex_line.specs.FeedingLaws.{script_fits}
+use Rattle.hex_line.proofs.FeedingLaws.{script_fits}
 use Rattle.reply.proofs.ReplyLaws.{read_text, read_sized}
 use Rattle.reply.proofs.answer.Goals as goal
 use Rattle.std.proofs.Common.{rules}

@@ -12,7 +12,7 @@ use Rattle.judge.specs.Nodes.{top_node, under_top}
 use Rattle.judge.specs.NodeTable.{node_at, size_at, Subtrees, Finished}
 use Rattle.judge.specs.NodeTableLaws.{top_read, under_read, table_read}
 use Rattle.forest.specs.Forest.{children, preorders, Forest}
-use Rattle.forest.specs.PreorderLaws.{new_root, preorders_length, preorders_reversed, top_size, under_root}
+use Rattle.forest.proofs.PreorderLaws.{new_root, preorders_length, preorders_reversed, top_size, under_root}
 
 -- The table of finished trees
 

@@ -22,7 +22,7 @@ use Rattle.correctness.specs.declared.Typed.TheVariants.{Is}
 use Rattle.correctness.specs.Rules.{check, made, is, given, onward, leaf_type, cast_alt, cast_swap, cast_check, cast_dupif, cast_verify, cast_nonzero, cast_zeronotequal, and_b, and_v, or_b, or_d, or_c, or_i, and_or, threshold_child, threshold_from, threshold}
 use Rattle.correctness.specs.Sanity.{Sound}
 use Rattle.correctness.specs.Bip379.{Letters, row, requiring, leaf_row, andor_row, and_v_row, and_b_row, or_b_row, or_c_row, or_d_row, or_i_row, all_z, all_z_but_one_o, all_wdu, threshold_row, a_row, s_row, c_row, d_row, v_row, j_row, n_row, letters, letters_given}
-use Rattle.correctness.specs.SanityLaws.{k_never_zero}
+use Rattle.correctness.proofs.SanityLaws.{k_never_zero}
 
 -- An answer in letters
 abbrev answered : Typed → Option Letters

@@ -14,9 +14,9 @@ use Rattle.standard.specs.Table.{Node, node, leaf_kind, wrapper_kind, combinatio
 use Rattle.standard.proofs.TableLaws.{key_table_length}
 use Rattle.judge.specs.Nodes.{held_type, top_node, new_leaf, Making, makes, refuses, making, parent, reduce_one, reduce_two, reduce_three, reduce_many}
 use Rattle.forest.specs.Forest.{children, preorders, leaf_number, leaf_count, leaf_place, kind_of, number_of, count_of, place_of, own_keys, HasType, AllHaveTypes, Forest, Agrees}
-use Rattle.forest.specs.PreorderLaws.{root_node_lem, new_root, preorders_length, top_type_lem}
+use Rattle.forest.proofs.PreorderLaws.{root_node_lem, new_root, preorders_length, top_type_lem}
 use Rattle.forest.specs.KeyLaws.{new_keys}
-use Rattle.forest.specs.ReductionLaws.{leaf_kind_lem, reduce_wrap, reduce_join, reduce_and_or, reduce_thresh}
+use Rattle.forest.proofs.ReductionLaws.{leaf_kind_lem, reduce_wrap, reduce_join, reduce_and_or, reduce_thresh}
 
 -- the first n trees of a stack, and the rest
 pub split : (n : ℕ) (ts : Trees) → n ≤ many ts → (xs : Trees) × (rest : Trees) × (many xs ≡ n) × (ts ≡ ◌⊕◌ xs rest)

@@ -15,11 +15,11 @@ use Rattle.standard.proofs.TreeLaws.{many_sizes, many_append}
 use Rattle.row.specs.Request.{Request, refused, many_children, asked, reading_asked, leaf_asked}
 use Rattle.judge.specs.NodeTable.{node_at, Finished}
 use Rattle.forest.specs.Forest.{Forest}
-use Rattle.forest.specs.TableLaws.{finished}
+use Rattle.forest.proofs.TableLaws.{finished}
 use Rattle.lists.specs.Small.{SmallLexemes, SmallK}
 use Rattle.lists.specs.SmallLaws.{SmallAsks, SmallFound, Countable, row_small}
 use Rattle.lists.specs.Ready.{most_counted, Ready, ReadyReading}
-use Rattle.lists.specs.StepLaws.{few, taken}
+use Rattle.lists.proofs.StepLaws.{few, taken}
 
 -- a thresh has counted no more children than there are finished trees
 pub countable : (segwit : Bool) (tokens : List Lexeme) (entry : NonTerm) (work : List NonTerm) (left : List Lexeme) (done : Trees)

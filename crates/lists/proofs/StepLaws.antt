@@ -18,8 +18,8 @@ use Rattle.row.specs.Request.{Request, asked, reading_asked, leaf_asked}
 use Rattle.judge.specs.Nodes.{Making, new_leaf, reduce_one, reduce_two, reduce_three, reduce_many}
 use Rattle.judge.specs.Nodes as judging
 use Rattle.forest.specs.Forest.{Forest, Agrees}
-use Rattle.forest.specs.ForestLaws.{nodes_counted, keys_counted, leaf_made, leaf_refused, thresh_refused, wrap_agrees, join_agrees, and_or_agrees, thresh_agrees}
-use Rattle.forest.specs.TableLaws.{finished}
+use Rattle.forest.proofs.ForestLaws.{nodes_counted, keys_counted, leaf_made, leaf_refused, thresh_refused, wrap_agrees, join_agrees, and_or_agrees, thresh_agrees}
+use Rattle.forest.proofs.TableLaws.{finished}
 use Rattle.lists.specs.Lists.{Lists, Next, goes, stops, fitting, goes_on, made, perform, performed, step_by}
 
 -- the same work list and tokens, and the nodes and keys of the finished trees

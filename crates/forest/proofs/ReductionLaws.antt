@@ -19,7 +19,7 @@ use Rattle.standard.specs.Table.{Node, node, wrapper_kind, combination_kind, and
 use Rattle.standard.specs.Table as table
 use Rattle.judge.specs.Nodes.{held_type, top_node, under_top, leaf_of, cast_of, combination_of, Making, makes, refuses, making, parent, reduce_one, reduce_two, reduce_three, reduce_children, reduce_many}
 use Rattle.forest.specs.Forest.{preorders, HasType, AllHaveTypes, types_given}
-use Rattle.forest.specs.PreorderLaws.{top_size, top_type_lem, under_root}
+use Rattle.forest.proofs.PreorderLaws.{top_size, top_type_lem, under_root}
 
 -- The rule of a kind, by its number
 

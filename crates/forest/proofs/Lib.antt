@@ -1,0 +1,5 @@
+-- Theorems over the definitions of specs/.
+pub mod PreorderLaws
+pub mod ReductionLaws
+pub mod ForestLaws
+pub mod TableLaws

@@ -1,0 +1,3 @@
+-- Theorems over the definitions of specs/.
+pub mod StepLaws
+pub mod ReadyLaws
