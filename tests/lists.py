@@ -1,5 +1,5 @@
 #!/usr/bin/env python3
-"""The stored lists: crates/NAME/cases, split into the stdin and the stdout that `rt check` runs the program NAME on.
+"""The stored lists: crates/NAME/cases, split into the stdin and the stdout that `rt ci` runs the program NAME on.
 
     lists.py          writes stdin and stdout of each list
     lists.py --check  says whether they are what their cases say, and whether the second reader writes the same listings

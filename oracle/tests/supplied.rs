@@ -62,14 +62,14 @@ fn a_changed_a_missing_and_an_added_file_are_seen() {
     assert_eq!(differences(&sums(), &added), ["src/other.rs is too many"]);
 }
 
-/// The one supplied file that is compiled through a link, because it asks for a stand-in beside itself.
+/// The one supplied file that is compiled from a copy, because it asks for a stand-in beside itself.
 #[test]
-fn the_link_leads_to_the_supplied_file() {
-    let link = fs::canonicalize(root().join("stand-ins/miniscript/src/iter/mod.rs")).unwrap();
-    assert_eq!(link, fs::canonicalize(root().join("crate-text/src/iter/mod.rs")).unwrap());
+fn the_copy_is_the_supplied_file() {
+    let copy = fs::read(root().join("stand-ins/miniscript/src/iter/mod.rs")).unwrap();
+    assert_eq!(copy, fs::read(root().join("crate-text/src/iter/mod.rs")).unwrap());
 }
 
-/// No stand-in holds a copy of what is supplied: each supplied module is compiled from `crate-text`, satisfy.rs alone isn't compiled.
+/// No other stand-in holds a copy of what is supplied: each supplied module is compiled from `crate-text`, satisfy.rs alone isn't compiled.
 #[test]
 fn each_supplied_module_is_compiled_from_where_it_stands() {
     let mut stand_ins = BTreeMap::new();

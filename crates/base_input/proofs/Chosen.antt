@@ -1,13 +1,12 @@
 -- Tests of the code, told of the tests of a definition, and choosing by them. Assumes nothing.
-use mathlib.Core.Path.{◌≡◌, refl, sym, ap, ◌∙◌}
+use mathlib.Core.Path.{◌≡◌, sym, ap, ◌∙◌}
 use mathlib.Core.Bool.{Bool, true, false, not, ◌&&◌, ◌||◌}
 use Prim.Native.Nat.{ℕ}
 use lib.Dec.{eqb}
 use borrow.Author.Tests.{not-true, not-false, eq-eqb, ne_eqb}
 use Rattle.tables.specs.Choose.{pick}
 use Rattle.base_input.specs.declared.Input.{Input}
-use Rattle.base_input.specs.declared.Input.TheVariants.{Zero, One, Any, OneNonZero, AnyNonZero}
-use Rattle.base_input.specs.Inputs.{and_input, if_zero, or_input, or_else_input, either_input}
+use Rattle.base_input.specs.Inputs.{and_input, or_input, or_else_input}
 
 -- `if !x { .. }` taken, with x what the definition tests
 pub fails : {x b : Bool} → not x ≡ true → x ≡ b → b ≡ false

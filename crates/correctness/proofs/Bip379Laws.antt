@@ -6,7 +6,7 @@ use Rattle.std.proofs.Math.Bool.{and-false, and-true, or-false}
 use Rattle.std.proofs.Math.Option.{Option, none, some}
 use Rattle.tables.specs.Choose.{pick}
 use Rattle.base_input.specs.declared.Base.{Base}
-use Rattle.base_input.specs.declared.Base.TheVariants.{B, K, «V», W}
+use Rattle.base_input.specs.declared.Base.TheVariants.{B, «V»}
 use Rattle.base_input.specs.declared.Input.{Input}
 use Rattle.base_input.specs.declared.Input.TheVariants.{Zero, One, Any, OneNonZero, AnyNonZero}
 use Rattle.base_input.specs.Tests.{is_b, is_k, is_v, is_w, equal_bkv, is_zero, takes_one, top_non_zero}

@@ -7,7 +7,7 @@ use Rattle.tables.proofs.BoolLaws.{left_true, right_true}
 use Rattle.base_input.specs.declared.Base.{Base}
 use Rattle.base_input.specs.declared.Base.TheVariants.{B, K, «V», W}
 use Rattle.base_input.specs.declared.Input.{Input}
-use Rattle.base_input.specs.declared.Input.TheVariants.{Zero, One, Any}
+use Rattle.base_input.specs.declared.Input.TheVariants.{One, Any}
 use Rattle.base_input.specs.Tests.{is_b, is_k, is_v, is_w, equal_bkv, is_zero, takes_one, top_non_zero}
 use Rattle.base_input.specs.Inputs.{and_input, either_input, and_or_input}
 use Rattle.base_input.specs.InputLaws.{and_zero_right}

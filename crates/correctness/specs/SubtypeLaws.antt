@@ -1,5 +1,5 @@
 -- A type is a subtype of itself, as the crate says of `is_subtype`. Assumes nothing.
-use Rattle.std.specs.Prelude.{◌≡◌, refl, Bool, true, ◌&&◌, ◌||◌, not, eqb}
+use Rattle.std.specs.Prelude.{◌≡◌, refl, true, eqb}
 use Rattle.std.proofs.Math.Bool.{or-not_self}
 use Rattle.base_input.specs.declared.Base.{Base}
 use Rattle.base_input.specs.declared.Base.TheVariants.{B, K, «V», W}

@@ -1,5 +1,6 @@
 // The desk on a stored list: document 01's "Scripts to try at the counter" (crates/counter/cases).
 #![tactic(auto)]
+
 fn main(rt: HostRuntime) {
     desk::run(rt);
 }

@@ -1,5 +1,6 @@
 // The desk on scripts that the crate's own text has answered: oracle/sample.txt, made into stdin and stdout by tests/crate_answers.py.
 #![tactic(auto)]
+
 fn main(rt: HostRuntime) {
     desk::run(rt);
 }

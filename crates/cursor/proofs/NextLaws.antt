@@ -4,7 +4,6 @@ use Prim.Native.Nat.{ℕ, zero, suc, ◌+◌, ◌-◌, ◌*◌}
 use native.Mathlib.Omega.{arith}
 use mathlib.Core.List.{List}
 use lib.ListN.{get_or}
-use Rattle.cursor.specs.declared.NextToken.{NextToken}
 use Rattle.cursor.specs.declared.NextToken.TheVariants.{Token}
 use Rattle.cursor.specs.Reading.{next_of}
 

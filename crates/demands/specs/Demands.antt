@@ -16,9 +16,9 @@ use Rattle.standard.specs.Machine.{Refusal, refused, ends, decode}
 use Rattle.standard.specs.Outcome.{Lengths, Outcome, token_room, limits_of, place_of, refusing, accepting, outcome_of, ample_for}
 use Rattle.standard.specs.Examples.{Told, no, twelve_told}
 use Rattle.standard.specs.RowForm.{row_form}
-use Rattle.standard.proofs.PlaceLaws.{bares}
-use Rattle.standard.proofs.TypesAgree.{letters_of, types_agree_in_segwit}
-use Rattle.standard.proofs.Demand3.{AmpleLengths, WrittenWithTokens, HandedOut, accepted_is_handed_out, handed_out_reads_back, accepted_exactly, steps_by_tokens, refusal_clears}
+use Rattle.standard.specs.Statements.{bares, letters_of, AmpleLengths, WrittenWithTokens, HandedOut}
+use Rattle.standard.proofs.TypesAgree.{types_agree_in_segwit}
+use Rattle.standard.proofs.Demand3.{accepted_is_handed_out, handed_out_reads_back, accepted_exactly, steps_by_tokens, refusal_clears}
 use Rattle.one_script.specs.OneScript.{same_tree_same_segwit_script}
 use Rattle.decode.specs.declared.Answer.{Answer}
 use Rattle.decode.specs.Read.{outcome_at}

@@ -21,6 +21,7 @@
 //   calls::tell, while a failure is told     1,536
 //   in all                                  53,960, under 64 KiB (65,536)
 #![tactic(auto)]
+
 ghost use Rattle.std.specs.Prelude.{◌≡◌, true, false, ◌≤◌, ◌<◌, length, take};
 ghost use Rattle.hex_line.specs.Feeding.{fed, left_by};
 ghost use Rattle.clerk.specs.declared.Hand.{Hand};
@@ -132,7 +133,9 @@ fn serve(
     let mut part = calls::begin();
     while !calls::has_ended(part) {
         part = calls::next(rt, part, &mut input);
-        match answer_part(rt, line, part, &input, script, tokens, nodes, keys, work, out) {
+        match answer_part(
+            rt, line, part, &input, script, tokens, nodes, keys, work, out,
+        ) {
             Sent::All(hand) => {
                 line = hand.line;
             }

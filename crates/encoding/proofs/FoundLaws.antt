@@ -7,7 +7,6 @@ use native.Mathlib.Omega.{arith}
 use borrow.Author.Tests.{eqb-true}
 use lib.Dec.{eqb}
 use lib.ListN.{length}
-use Rattle.base_input.specs.declared.Base.TheVariants as base
 use Rattle.base_input.specs.Tests.{is_b}
 use Rattle.base_input.specs.TestLaws.{only_b}
 use Rattle.correctness.specs.declared.Typed.{Typed}

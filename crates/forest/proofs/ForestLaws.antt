@@ -1,21 +1,20 @@
 -- Lists of nodes and keys that are those of finished trees: they stay so when a node is made, and what is said of a node on lists is what is said of its tree. One law for the leaves, the wrappers, the combinations, and_or and thresh each. Assumes nothing.
-use Rattle.std.specs.Prelude.{◌≡◌, refl, Bool, true, false, List, [], ◌∷◌, ◌++◌, ℕ, zero, suc, ◌+◌, ◌-◌, ◌*◌, ◌≤◌, ◌<◌, length}
+use Rattle.std.specs.Prelude.{◌≡◌, refl, Bool, true, false, List, [], ◌∷◌, ◌++◌, ℕ, zero, suc, ◌≤◌, length}
 use Rattle.std.proofs.Common.{sym, ap, subst, ◌∙◌, append-nil, zero-add, arith}
 use Rattle.tables.specs.Choose.{pick}
-use Rattle.correctness.specs.declared.Correctness.{Correctness}
 use Rattle.correctness.specs.declared.Leaf as correctness
 use Rattle.correctness.specs.declared.Typed.{Typed}
 use Rattle.correctness.specs.declared.Typed.TheVariants.{Is, Not}
 use Rattle.correctness.specs.Rules.{leaf_type}
 use Rattle.standard.specs.Tree.{Leaf, Wrapper, Combination, Tree, Trees, leaf, wrap, join, and_or, thresh, nil, ◌⊳◌, ◌⊕◌, many, size, sizes, key_counts}
 use Rattle.standard.specs.Allowed.{allowed_leaf, leaf_refusal, thresh_allowed}
-use Rattle.standard.specs.Types.{typed_leaf, type_of, Judged, passes, fails, by_rule, judge}
-use Rattle.standard.specs.Table.{Node, node, leaf_kind, wrapper_kind, combination_kind, leaf_offsets, key_table, root_node}
+use Rattle.standard.specs.Types.{typed_leaf, type_of, passes, fails, by_rule, judge}
+use Rattle.standard.specs.Table.{Node, node, leaf_kind, wrapper_kind, combination_kind, leaf_offsets, root_node}
 use Rattle.standard.proofs.TableLaws.{key_table_length}
-use Rattle.judge.specs.Nodes.{held_type, top_node, new_leaf, Making, makes, refuses, making, parent, reduce_one, reduce_two, reduce_three, reduce_many}
+use Rattle.judge.specs.Nodes.{held_type, top_node, new_leaf, Making, making, parent, reduce_one, reduce_two, reduce_three, reduce_many}
 use Rattle.forest.specs.Forest.{children, preorders, leaf_number, leaf_count, leaf_place, kind_of, number_of, count_of, place_of, own_keys, HasType, AllHaveTypes, Forest, Agrees}
 use Rattle.forest.proofs.PreorderLaws.{root_node_lem, new_root, preorders_length, top_type_lem}
-use Rattle.forest.specs.KeyLaws.{new_keys}
+use Rattle.forest.proofs.KeyLaws.{new_keys}
 use Rattle.forest.proofs.ReductionLaws.{leaf_kind_lem, reduce_wrap, reduce_join, reduce_and_or, reduce_thresh}
 
 -- the first n trees of a stack, and the rest

@@ -3,3 +3,4 @@ pub mod PreorderLaws
 pub mod ReductionLaws
 pub mod ForestLaws
 pub mod TableLaws
+pub mod KeyLaws

@@ -1,7 +1,7 @@
 -- The preorder of the finished trees: it is the node table read backwards; its length is the trees' size; its first node is the newest root, and under that tree lie the nodes of the others; and a new root stands before its children's nodes. Assumes nothing.
-use Rattle.std.specs.Prelude.{◌≡◌, refl, Bool, ℕ, zero, suc, ◌+◌, ◌≤◌, length, drop}
+use Rattle.std.specs.Prelude.{◌≡◌, refl, Bool, ℕ, ◌+◌, length, drop}
 use Rattle.std.proofs.Common.{sym, ap, ◌∙◌, add-zero, arith, length-append, drop_at}
-use mathlib.Core.List.{List, [], ◌∷◌, ◌++◌, append_assoc, append-nil, reverse, reverse-cons, reverse-append}
+use mathlib.Core.List.{List, [], ◌∷◌, ◌++◌, append_assoc, append-nil, reverse, reverse-append}
 use Rattle.base_input.specs.declared.Base.{Base}
 use Rattle.base_input.specs.declared.Input.{Input}
 use Rattle.base_input.specs.Numbers.{base_number, input_number, bool_number, base_of, input_of, bool_of}
@@ -10,12 +10,12 @@ use Rattle.correctness.specs.declared.Correctness.{Correctness}
 use Rattle.correctness.specs.declared.Typed.{Typed}
 use Rattle.correctness.specs.declared.Typed.TheVariants.{Is, Not}
 use Rattle.correctness.specs.Rules.{made}
-use Rattle.standard.specs.Tree.{Leaf, True, False, PkK, RawPkH, After, Older, HashLock, Multi, MultiA, Tree, Trees, leaf, wrap, join, and_or, thresh, nil, ◌⊳◌, ◌⊕◌, many, size, sizes, key_count, key_counts}
+use Rattle.standard.specs.Tree.{True, False, PkK, RawPkH, After, Older, HashLock, Multi, MultiA, Tree, Trees, leaf, wrap, join, and_or, thresh, nil, ◌⊳◌, ◌⊕◌, size, sizes, key_count, key_counts}
 use Rattle.standard.proofs.TreeLaws.{keys_append}
 use Rattle.standard.specs.Types.{type_of}
 use Rattle.standard.specs.Table.{Node, node, root_node, nodes_of, nodes_from}
 use Rattle.judge.specs.Nodes.{held_type, top_node, under_top}
-use Rattle.forest.specs.Forest.{children, preorder, preorders, kind_of, number_of, count_of, place_of, HasType}
+use Rattle.forest.specs.Forest.{children, preorder, preorders, kind_of, number_of, count_of, place_of}
 
 -- The node of a root
 

@@ -1,13 +1,12 @@
 -- A reduction on the nodes of finished trees is the rule of the new tree: it makes a node of the tree's type and size, or has the tree's reason. One law for the wrappers, one for the combinations, one each for and_or and thresh. Assumes nothing.
 -- Why: each child on the list is the root of a finished tree, whose node holds that tree's type and size.
-use Rattle.std.specs.Prelude.{◌≡◌, refl, Bool, true, false}
+use Rattle.std.specs.Prelude.{◌≡◌, refl, Bool}
 use Rattle.std.proofs.Common.{sym, ◌∙◌, add-zero}
 use Rattle.std.proofs.Math.Path.{ap}
-use mathlib.Core.List.{List, [], ◌∷◌, ◌++◌}
-use Prim.Native.Nat.{ℕ, zero, suc, ◌+◌}
+use mathlib.Core.List.{List, ◌∷◌}
+use Prim.Native.Nat.{ℕ, suc, ◌+◌}
 use native.Mathlib.Omega.{arith}
 use Rattle.correctness.specs.declared.Correctness.{Correctness}
-use Rattle.correctness.specs.declared.Leaf.{Leaf}
 use Rattle.correctness.specs.declared.Typed.{Typed}
 use Rattle.correctness.specs.declared.Typed.TheVariants.{Is, Not}
 use Rattle.correctness.specs.Rules as rules
@@ -17,7 +16,7 @@ use Rattle.standard.specs.Tree.{Wrapper, alt, swap, check, dupIf, verify, nonZer
 use Rattle.standard.specs.Types.{typed_leaf, wrapper_rule, combination_rule, AllTyped, all, and_then, ruled, type_of, types_of}
 use Rattle.standard.specs.Table.{Node, node, wrapper_kind, combination_kind, and_or_kind, thresh_kind}
 use Rattle.standard.specs.Table as table
-use Rattle.judge.specs.Nodes.{held_type, top_node, under_top, leaf_of, cast_of, combination_of, Making, makes, refuses, making, parent, reduce_one, reduce_two, reduce_three, reduce_children, reduce_many}
+use Rattle.judge.specs.Nodes.{held_type, top_node, under_top, leaf_of, cast_of, combination_of, Making, making, parent, reduce_one, reduce_two, reduce_three, reduce_children, reduce_many}
 use Rattle.forest.specs.Forest.{preorders, HasType, AllHaveTypes, types_given}
 use Rattle.forest.proofs.PreorderLaws.{top_size, top_type_lem, under_root}
 

@@ -1,11 +1,11 @@
 -- The flat node table: read by index, the newest first, it is the preorder of the trees whose nodes stand at its front; a new tree's node stands behind those of its children; and finished trees are subtrees as a reduction requires them. Assumes nothing.
-use Rattle.std.specs.Prelude.{◌≡◌, refl, Bool, ℕ, zero, suc, ◌+◌, ◌-◌, ◌*◌, ◌≤◌, ◌<◌, length, get_or}
+use Rattle.std.specs.Prelude.{◌≡◌, refl, Bool, ℕ, zero, suc, ◌+◌, ◌-◌, ◌*◌, ◌≤◌, ◌<◌, length}
 use Rattle.std.proofs.Common.{sym, ap, ◌∙◌, zero-add, arith}
 use mathlib.Core.List.{List, [], ◌∷◌, ◌++◌, map, reverse, reverse-cons, reverse-reverse}
 use Rattle.tables.specs.Tables.{flat, newest}
 use Rattle.tables.proofs.NewestLaws.{newest_length}
 use Rattle.standard.specs.Tree.{Tree, Trees, nil, ◌⊳◌, ◌⊕◌, many, size, sizes, key_counts}
-use Rattle.standard.specs.Table.{Node, cells, root_node, nodes_from, node_table}
+use Rattle.standard.specs.Table.{Node, cells, root_node, node_table}
 use Rattle.standard.proofs.TreeLaws.{size_some}
 use Rattle.standard.proofs.TableLaws.{node_table_length}
 use Rattle.judge.specs.Nodes.{top_node, under_top}

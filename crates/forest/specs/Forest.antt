@@ -2,7 +2,7 @@
 use Rattle.std.specs.Prelude.{◌≡◌, Bool, List, [], ◌∷◌, ◌++◌, ℕ, suc, ◌+◌, length}
 use Rattle.correctness.specs.declared.Correctness.{Correctness}
 use Rattle.correctness.specs.declared.Typed.TheVariants.{Is}
-use Rattle.standard.specs.Tree.{Key, key, Leaf, True, False, PkK, RawPkH, After, Older, HashLock, Multi, MultiA, Tree, Trees, leaf, wrap, join, and_or, thresh, nil, ◌⊳◌, many, key_count, key_counts}
+use Rattle.standard.specs.Tree.{Leaf, True, False, PkK, RawPkH, After, Older, HashLock, Multi, MultiA, Tree, Trees, leaf, wrap, join, and_or, thresh, nil, ◌⊳◌, many, key_count, key_counts}
 use Rattle.standard.specs.Types.{type_of, judge, passes, fails}
 use Rattle.standard.specs.Table.{Node, leaf_kind, wrapper_kind, combination_kind, and_or_kind, thresh_kind, key_place, leaf_offsets, key_table, root_node}
 use Rattle.judge.specs.Nodes.{Making, makes, refuses}

@@ -1,3 +1,2 @@
 -- For the proof: from lists of nodes to trees.
 pub mod Forest
-pub mod KeyLaws

@@ -1,13 +1,12 @@
 -- One byte more, and the end of a line, by what the `match` found the line to be. Assumes nothing.
-use mathlib.Core.Path.{◌≡◌, refl, sym, ap, ◌∙◌}
-use mathlib.Core.Bool.{Bool, true, false}
+use mathlib.Core.Path.{◌≡◌, sym, ap, ◌∙◌}
 use mathlib.Core.List.{List}
 use Prim.Native.Nat.{ℕ, ◌+◌, ◌≤◌, ◌<◌}
 use native.Mathlib.Omega.{arith}
 use lib.ListN.{set}
 use borrow.Author.Tests.{lt-ltb, le-ltb, le-leb, lt-leb}
 use Rattle.hex_line.specs.declared.Line.{Line}
-use Rattle.hex_line.specs.declared.Line.TheVariants.{Nothing, HalfKind, Whole, Half, NotHex}
+use Rattle.hex_line.specs.declared.Line.TheVariants.{HalfKind, Whole, Half, NotHex}
 use Rattle.hex_line.specs.declared.Meaning.{Meaning}
 use Rattle.hex_line.specs.declared.Meaning.TheVariants as meaning
 use Rattle.hex_line.specs.Digits.{digit_of}

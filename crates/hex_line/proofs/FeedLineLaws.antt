@@ -1,16 +1,13 @@
 -- The loop that feeds a line: what is still to feed at a position comes to what was to feed from the start. Assumes nothing.
-use mathlib.Core.Path.{◌≡◌, refl, sym, ap, subst, ◌∙◌}
-use mathlib.Core.Logic.{◌≢◌}
+use mathlib.Core.Path.{◌≡◌, sym, ap, ◌∙◌}
 use mathlib.Core.List.{List, [], ◌∷◌}
 use Prim.Native.Nat.{ℕ, suc, ◌+◌, ◌≤◌, ◌<◌, min}
 use native.Mathlib.Numerals.{add-one}
 use native.Mathlib.Omega.{arith}
-use lib.Dec.{eqb}
 use lib.ListN.{length, take, drop, get_or, length-take, drop_of_length-le}
 use lib.Seq.{drop-cons, get_or-take}
 use borrow.Author.Tests.{eq-eqb, ne_eqb}
-use Rattle.tables.specs.Choose.{pick}
-use Rattle.hex_line.specs.Feeding.{Fed, step, feed_all, of_line, Stopped, stopped, line_fed}
+use Rattle.hex_line.specs.Feeding.{Fed, step, feed_all, of_line, stopped, line_fed}
 
 -- at the end of the part, nothing more is fed
 pub at_end : (input : List ℕ) (to at : ℕ) (f : Fed) {end : ℕ} → end ≡ min to (length input) → end ≤ at → stopped f at ≡ line_fed (take to input) at f

@@ -1,7 +1,7 @@
 -- Feeding a line and ending it gives exactly what the line means, the script at the buffer's front; what the buffer held before never matters. Assumes nothing.
 -- Why: after an even number of digits the buffer's front holds the script bytes so far, or there are too many of them; each pair adds one.
-use Rattle.std.specs.Prelude.{◌≡◌, refl, Bool, true, false, ◌&&◌, List, [], ◌∷◌, ◌++◌, map, ℕ, suc, ◌+◌, ◌*◌, ◌%◌, ◌≤◌, ◌<◌, eqb, leb, ltb, length, take, drop, set}
-use Rattle.std.proofs.Common.{sym, ap, subst, ◌∙◌, true≢false, append_assoc, append-nil, mod-eq_of_lt, add-one, arith, length-append, length-set, take-suc-set, lt-ltb, le-ltb, ltb-true, ltb-false, le-leb, leb-true}
+use Rattle.std.specs.Prelude.{◌≡◌, refl, Bool, true, false, List, [], ◌∷◌, ◌++◌, map, ℕ, suc, ◌+◌, ◌*◌, ◌≤◌, ◌<◌, eqb, leb, ltb, length, take, drop, set}
+use Rattle.std.proofs.Common.{sym, ap, subst, ◌∙◌, append_assoc, append-nil, mod-eq_of_lt, add-one, arith, length-append, length-set, take-suc-set, le-ltb, ltb-true, ltb-false, le-leb, leb-true}
 use Rattle.std.proofs.lemmas.Bool.{lt-leb}
 use Rattle.tables.specs.Choose.{pick}
 use Rattle.hex_line.specs.declared.Line.{Line}
@@ -9,8 +9,8 @@ use Rattle.hex_line.specs.declared.Line.TheVariants.{Nothing, HalfKind, Whole, H
 use Rattle.hex_line.specs.declared.Meaning.{Meaning}
 use Rattle.hex_line.specs.declared.Meaning.TheVariants as meaning
 use Rattle.hex_line.specs.Digits.{digit_of, is_digit, Bytes, bytes, not_hex, before, bytes_of}
-use Rattle.hex_line.specs.Meant.{Meant, refused, script, meant_by, line_of}
-use Rattle.hex_line.specs.Input.{last_line, lines_from, lines_of, input_of}
+use Rattle.hex_line.specs.Meant.{refused, script, meant_by, line_of}
+use Rattle.hex_line.specs.Input.{last_line, lines_from, input_of}
 use Rattle.hex_line.specs.Feeding.{Fed, fed, byte_of, digit_fed, step, feed_all, Stopped, stopped, line_fed, ended, told, told_of, untouched, told_all, of_line, told_in, left_by}
 
 -- by the two values of a test

@@ -1,5 +1,5 @@
 -- Hexadecimal digits of either case, and the bytes that pairs of digits stand for: document 01, section "Program", "Reads lines of hexadecimal, either case".
-use Rattle.std.specs.Prelude.{Bool, true, false, ◌&&◌, List, [], ◌∷◌, ℕ, ◌+◌, ◌-◌, ◌*◌, leb, ltb}
+use Rattle.std.specs.Prelude.{Bool, ◌&&◌, List, [], ◌∷◌, ℕ, ◌+◌, ◌-◌, ◌*◌, leb, ltb}
 use Rattle.tables.specs.Choose.{pick}
 
 -- the value of a digit by its ASCII code, `0` to `9`, `a` to `f` or `A` to `F`; 16 says that the byte is no digit

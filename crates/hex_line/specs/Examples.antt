@@ -1,5 +1,5 @@
 -- Worked examples of what a line means, each by computation.
-use Rattle.std.specs.Prelude.{◌≡◌, refl, List, [], ◌∷◌, ◌++◌, replicate}
+use Rattle.std.specs.Prelude.{◌≡◌, refl, [], ◌∷◌, replicate}
 use Rattle.hex_line.specs.Digits.{digit_of}
 use Rattle.hex_line.specs.Meant.{refused, script, line_of}
 use Rattle.hex_line.specs.Input.{lines_of, input_of}

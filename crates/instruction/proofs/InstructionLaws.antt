@@ -1,15 +1,15 @@
 -- What an instruction gives, from the tests of the code. Assumes nothing.
 use mathlib.Core.Path.{◌≡◌, refl, sym, ap, ◌∙◌}
-use mathlib.Core.Bool.{Bool, true, false}
+use mathlib.Core.Bool.{true, false}
 use mathlib.Core.List.{List, []}
-use Prim.Native.Nat.{ℕ, ◌+◌, ◌≤◌}
+use Prim.Native.Nat.{ℕ, ◌≤◌}
 use native.Mathlib.Nat.{add-zero}
-use borrow.Author.Tests.{eq-eqb, ne_eqb}
+use borrow.Author.Tests.{ne_eqb}
 use lib.ListN.{length, drop, get_or, drop_of_length-le}
 use lib.Seq.{get_or-drop}
 use Rattle.instruction.specs.declared.Op.{Op}
 use Rattle.instruction.specs.declared.Lexed.{Lexed}
-use Rattle.instruction.specs.declared.Lexed.TheVariants.{One, Two, Refused}
+use Rattle.instruction.specs.declared.Lexed.TheVariants.{One, Refused}
 use Rattle.instruction.specs.Opcode.{op_of, ranged}
 use Rattle.instruction.specs.Push.{has_opcode, push_of}
 use Rattle.instruction.specs.Instruction.{verify_refused, given, instruction_of}

@@ -1,15 +1,14 @@
 -- Reading a number of n bytes at a place of a script, from the tests of the code. Assumes nothing.
 -- Why: the bytes of a part are the script's at place + i, and a part of at most four bytes is its four digits, missing ones being 0.
 use mathlib.Core.Path.{◌≡◌, refl, sym, ap, ◌∙◌}
-use mathlib.Core.Bool.{Bool, true, false}
+use mathlib.Core.Bool.{true, false}
 use mathlib.Core.List.{List, [], ◌∷◌}
-use Prim.Native.Nat.{ℕ, suc, ◌+◌, ◌-◌, ◌*◌, ◌%◌, ◌≤◌, ◌<◌}
+use Prim.Native.Nat.{ℕ, ◌+◌, ◌-◌, ◌*◌, ◌%◌, ◌≤◌, ◌<◌}
 use native.Mathlib.Omega.{arith}
 use borrow.Author.Tests.{eq-eqb, ne_eqb, le-leb, lt-leb}
 use lib.Dec.{leb}
 use lib.ListN.{length, take, drop, get_or, length-drop, get_or-eq_default}
 use lib.Seq.{get_or-take, get_or-drop, length-take-le}
-use Rattle.instruction.specs.declared.Number.{Number}
 use Rattle.instruction.specs.declared.Number.TheVariants.{Is, NotMinimal, Negative}
 use Rattle.instruction.specs.Number.{little_endian, last_byte, minimal, number_of}
 

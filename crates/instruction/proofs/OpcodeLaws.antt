@@ -1,6 +1,6 @@
 -- Looking an opcode up, where it is one of the rows and where it is none. Assumes nothing.
 -- Why: the rows stand in the code's order, and a `match` leaves for its last cases that no row's byte is the one looked up.
-use mathlib.Core.Path.{◌≡◌, refl, sym, ap, subst, ◌∙◌}
+use mathlib.Core.Path.{◌≡◌, refl, sym, ap, ◌∙◌}
 use mathlib.Core.Bool.{Bool, true, false, true≢false}
 use mathlib.Core.List.{List, [], ◌∷◌}
 use Prim.Native.Nat.{ℕ, ◌≤◌, ◌<◌, ◌-◌}

@@ -1,8 +1,8 @@
 -- What a push gives, from the tests of the code. Assumes nothing.
 -- Why: the definition tests in the code's order, over the script from the instruction on; here it is read at a place of the whole script.
-use mathlib.Core.Path.{◌≡◌, refl, sym, ap, ◌∙◌}
+use mathlib.Core.Path.{◌≡◌, sym, ap, ◌∙◌}
 use mathlib.Core.Bool.{Bool, true, false}
-use mathlib.Core.List.{List, [], ◌∷◌}
+use mathlib.Core.List.{List}
 use Prim.Native.Nat.{ℕ, ◌+◌, ◌-◌, ◌≤◌, ◌<◌}
 use native.Mathlib.Omega.{arith}
 use borrow.Author.Tests.{eq-eqb, ne_eqb, le-leb, lt-leb, lt-ltb, le-ltb}
@@ -10,7 +10,7 @@ use lib.ListN.{length, take, drop, get_or, length-drop, get_or-eq_default}
 use lib.Seq.{get_or-drop, drop-drop}
 use Rattle.instruction.specs.declared.Number.{Number}
 use Rattle.instruction.specs.declared.Lexed.{Lexed}
-use Rattle.instruction.specs.declared.Lexed.TheVariants.{One, Two, Refused}
+use Rattle.instruction.specs.declared.Lexed.TheVariants.{One, Refused}
 use Rattle.instruction.specs.Number.{little_endian, number_of}
 use Rattle.instruction.specs.Push.{small, numbered, pushed, has_opcode, push_of, sized_of}
 

@@ -1,5 +1,5 @@
 -- Worked examples of one instruction, each by computation: the order of its refusals, and the VERIFY rule.
-use Rattle.std.specs.Prelude.{◌≡◌, refl, List, [], ◌∷◌, replicate}
+use Rattle.std.specs.Prelude.{◌≡◌, refl, [], ◌∷◌, replicate}
 use Rattle.instruction.specs.declared.Lexed.TheVariants.{One, Two, Refused}
 use Rattle.instruction.specs.Code.{EQUAL, NUMEQUAL, CHECKMULTISIG, VERIFY, NUM, HASH20}
 use Rattle.instruction.specs.Opcode.{ranged}

@@ -1,5 +1,5 @@
 -- What one instruction gives: document 01, "Each opcode byte is decided by one table of cases", with the VERIFY rule.
-use Rattle.std.specs.Prelude.{Bool, true, false, List, ℕ, eqb, get_or}
+use Rattle.std.specs.Prelude.{Bool, true, List, ℕ, eqb, get_or}
 use Rattle.tables.specs.Choose.{pick}
 use Rattle.instruction.specs.declared.Op.{Op}
 use Rattle.instruction.specs.declared.Op.TheVariants.{Push, Sized, Num, One, Fused, Verify, Unlisted}

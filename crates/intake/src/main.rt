@@ -1,5 +1,6 @@
 // The program of the intake desk: document 01, section "Program". Its stored list is crates/intake/cases.
 #![tactic(auto)]
+
 fn main(rt: HostRuntime) {
     desk::run(rt);
 }

@@ -1,10 +1,9 @@
 -- What the code reads at the roots of the newest subtrees is what the reduction on the list of nodes reads. Assumes nothing.
 -- Why: the nodes under the newest subtree are again the first nodes of the table, fewer by its size, so each child is the newest of a shorter list.
-use mathlib.Core.Path.{◌≡◌, refl, sym, ap, ◌∙◌}
+use mathlib.Core.Path.{◌≡◌, sym, ap, ◌∙◌}
 use mathlib.Core.List.{List}
-use Prim.Native.Nat.{ℕ, ◌+◌, ◌*◌, ◌-◌, ◌≤◌, ◌<◌}
+use Prim.Native.Nat.{ℕ, ◌+◌, ◌-◌, ◌≤◌, ◌<◌}
 use native.Mathlib.Omega.{arith}
-use lib.ListN.{length, drop}
 use Rattle.tables.specs.Tables.{newest}
 use Rattle.base_input.specs.declared.Base.{Base}
 use Rattle.base_input.specs.declared.Input.{Input}

@@ -1,9 +1,8 @@
 -- The loop over a thresh's children: before child i, the children from there on, with the type and size of those before it, make what all of them make. Assumes nothing.
 use mathlib.Core.Path.{◌≡◌, refl, sym, ap, subst, ◌∙◌}
 use mathlib.Core.List.{List}
-use Prim.Native.Nat.{ℕ, zero, ◌+◌, ◌*◌, ◌-◌, ◌≤◌, ◌<◌}
+use Prim.Native.Nat.{ℕ, ◌+◌, ◌-◌, ◌≤◌, ◌<◌}
 use native.Mathlib.Omega.{arith}
-use lib.ListN.{length}
 use Rattle.tables.specs.Tables.{newest}
 use Rattle.correctness.specs.declared.Correctness.{Correctness}
 use Rattle.correctness.specs.declared.ErrorKind.{ErrorKind}
@@ -12,7 +11,7 @@ use Rattle.correctness.specs.declared.Typed.TheVariants.{Is, Not}
 use Rattle.correctness.specs.Reasons.{reason}
 use Rattle.correctness.specs.Rules.{no_children, threshold_child}
 use Rattle.standard.specs.Table.{Node, node, thresh_kind}
-use Rattle.judge.specs.Nodes.{held_type, top_node, under_top, Making, makes, refuses, making, parent, reduce_children, reduce_many}
+use Rattle.judge.specs.Nodes.{held_type, under_top, Making, makes, refuses, making, reduce_children, reduce_many}
 use Rattle.judge.specs.NodeTable.{node_at, size_at, Subtrees, Finished}
 use Rattle.judge.specs.NodeTableLaws.{top_read, under_read, one_more, next_there}
 use Rattle.judge.proofs.ReductionLaws.{refused, given_type}

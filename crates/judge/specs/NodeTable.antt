@@ -1,5 +1,5 @@
 -- For the proof: the node table as the code reads it (document 01, "Tokens to tree": nine numbers a node), what a reduction requires of it, and the code's answers.
-use Rattle.std.specs.Prelude.{ℕ, zero, suc, ◌+◌, ◌*◌, ◌-◌, ◌≤◌, ◌<◌, List, length, get_or}
+use Rattle.std.specs.Prelude.{ℕ, zero, suc, ◌+◌, ◌*◌, ◌-◌, ◌≤◌, ◌<◌, List, length}
 use Rattle.standard.specs.Table.{Node}
 pub use Rattle.standard.specs.Table.{node_at}
 use Rattle.judge.specs.Nodes.{Making, makes, refuses}

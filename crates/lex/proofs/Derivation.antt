@@ -7,7 +7,7 @@ use Prim.Native.Nat.{ℕ, zero, suc, ◌+◌, ◌-◌, ◌*◌, ◌≤◌, ◌<�
 use native.Mathlib.Omega.{arith}
 use borrow.Author.Tests.{le-leb, leb-true, leb-false}
 use lib.Dec.{leb}
-use lib.ListN.{length, drop, length-drop, drop_of_length-le}
+use lib.ListN.{length, drop, drop_of_length-le}
 use Rattle.tables.specs.Choose.{pick}
 use Rattle.instruction.specs.declared.Lexed.{Lexed}
 use Rattle.instruction.specs.declared.Lexed.TheVariants.{One, Two, Refused}

@@ -4,11 +4,11 @@ use mathlib.Core.Path.{◌≡◌, refl, sym, ap, subst, ◌∙◌}
 use mathlib.Core.List.{List, [], ◌∷◌, ◌++◌, map}
 use Prim.Native.Nat.{ℕ, ◌+◌, ◌-◌, ◌*◌, ◌/◌, ◌≤◌, ◌<◌}
 use native.Mathlib.Omega.{arith}
-use mathlib.Core.Bool.{Bool, true, false}
+use mathlib.Core.Bool.{false}
 use lib.Dec.{leb}
 use lib.ListN.{length, drop, length-append, length-map}
 use Rattle.tables.specs.Tables.{zeros, flat, Strided, put_at}
-use Rattle.tables.proofs.FlatLaws.{strided_map, table_length, append_entry}
+use Rattle.tables.proofs.FlatLaws.{strided_map, append_entry}
 use Rattle.instruction.specs.declared.Lexed.{Lexed}
 use Rattle.instruction.specs.declared.Lexed.TheVariants.{One, Two, Refused}
 use Rattle.lex.specs.declared.Answer.{Answer}

@@ -1,15 +1,14 @@
 -- Scanning a script instruction by instruction: what holds between two instructions, and what the next one makes of it. With a table or without. Assumes nothing.
 -- Why: the outcome of the whole script is the tokens so far, put before the outcome of what is left.
-use mathlib.Core.Path.{◌≡◌, refl, sym, ap, subst, fun_ext, ◌∙◌}
-use mathlib.Core.Bool.{Bool, true, false}
-use mathlib.Core.List.{List, [], ◌∷◌, ◌++◌, append-nil}
+use mathlib.Core.Path.{◌≡◌, refl, sym, ap, fun_ext, ◌∙◌}
+use mathlib.Core.Bool.{false}
+use mathlib.Core.List.{List, [], ◌∷◌, ◌++◌}
 use Prim.Native.Nat.{ℕ, zero, suc, ◌+◌, ◌-◌, ◌*◌, ◌≤◌, ◌<◌}
 use native.Mathlib.Omega.{arith}
 use borrow.Author.Tests.{le-leb, lt-leb}
 use lib.ListN.{length, drop, length-drop, length-append, drop_of_length-le}
 use lib.Seq.{drop-drop}
 use lib.Dec.{leb}
-use Rattle.tables.specs.Choose.{pick}
 use Rattle.instruction.specs.declared.Lexed.{Lexed}
 use Rattle.instruction.specs.declared.Lexed.TheVariants.{One, Two, Refused}
 use Rattle.instruction.specs.Instruction.{instruction_of}

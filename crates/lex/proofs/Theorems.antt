@@ -1,12 +1,12 @@
 -- What holds of every script and every table: tokens are at most twice the bytes, room beyond that never matters, every number of the table is below 2^31, an entry of the table is its token, and the contract has one outcome. Assumes nothing.
-use mathlib.Core.Path.{◌≡◌, refl, sym, ap, subst, fun_ext, ◌∙◌}
+use mathlib.Core.Path.{◌≡◌, refl, sym, ap, subst, ◌∙◌}
 use mathlib.Core.Bool.{Bool, true, false}
 use mathlib.Core.List.{List, [], ◌∷◌, ◌++◌, map, reverse}
-use Prim.Native.Nat.{ℕ, zero, suc, ◌+◌, ◌-◌, ◌*◌, ◌/◌, ◌≤◌, ◌<◌}
+use Prim.Native.Nat.{ℕ, zero, suc, ◌+◌, ◌-◌, ◌*◌, ◌≤◌, ◌<◌}
 use native.Mathlib.Omega.{arith}
 use borrow.Author.Tests.{le-leb, leb-true, leb-false}
 use lib.Dec.{leb}
-use lib.ListN.{length, drop, get_or, replicate, length-drop, drop_of_length-le, length-map, get_or-map}
+use lib.ListN.{length, drop, get_or, drop_of_length-le, length-map}
 use Rattle.tables.specs.Choose.{pick}
 use Rattle.tables.specs.Tables.{zeros, flat, newest}
 use Rattle.tables.proofs.NewestLaws.{newest_same, newest_reverse}
@@ -17,7 +17,6 @@ use Rattle.instruction.specs.declared.Lexed.TheVariants.{One, Two, Refused}
 use Rattle.lex.specs.declared.Answer.{Answer}
 use Rattle.lex.specs.declared.Answer.TheVariants as answer
 use Rattle.lex.specs.declared.Ample.{Ample}
-use Rattle.lex.specs.declared.Ample.TheVariants as ample
 use Rattle.instruction.specs.Instruction.{instruction_of}
 use Rattle.lex.specs.Token.{Bytes, Token, token, read_token, VERIFY}
 use Rattle.lex.specs.Script.{script_limit, Outcome, tokens, refused, and_then, after, instructions, lex_of, numbers, table_of, answer_of, Lexes}

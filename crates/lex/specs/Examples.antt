@@ -1,11 +1,11 @@
 -- Worked examples of the definitions, each by computation: document 01's scripts that are the lexer's matter, and the edges of its rules.
-use Rattle.std.specs.Prelude.{◌≡◌, refl, List, [], ◌∷◌, replicate}
+use Rattle.std.specs.Prelude.{◌≡◌, refl, [], ◌∷◌, replicate}
 use Rattle.lex.specs.Token.{token, EQUAL, NUMEQUAL, CHECKSIG, CHECKMULTISIG, IF, ELSE, ENDIF, VERIFY, NUM, HASH20, BYTES32, BYTES33, BYTES65}
 use Rattle.instruction.specs.Opcode.{ranged}
 use Rattle.instruction.specs.Number.{minimal, number_of}
 use Rattle.instruction.specs.Push.{small, pushed, has_opcode, push_of, sized_of}
 use Rattle.instruction.specs.Instruction.{verify_refused, instruction_of}
-use Rattle.lex.specs.Script.{script_limit, tokens, refused, lex_of, Lexes, answer_of, table_of}
+use Rattle.lex.specs.Script.{script_limit, tokens, refused, lex_of, table_of}
 
 -- `6351670068`
 if_else : lex_of 1000 (0x63 ∷ 0x51 ∷ 0x67 ∷ 0x00 ∷ 0x68 ∷ []) ≡ tokens (token IF 0 0 ∷ token NUM 1 1 ∷ token ELSE 0 2 ∷ token NUM 0 3 ∷ token ENDIF 0 4 ∷ [])

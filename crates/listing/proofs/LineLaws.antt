@@ -2,7 +2,7 @@
 -- Why: word after word is written where the last one ended, so that together they are the line.
 use mathlib.Core.Path.{◌≡◌, refl, sym, ap, ◌∙◌}
 use mathlib.Core.Bool.{Bool, true, false, not}
-use mathlib.Core.List.{List, [], ◌∷◌, ◌++◌, append_assoc}
+use mathlib.Core.List.{List, [], ◌∷◌, ◌++◌}
 use Prim.Native.Nat.{ℕ, ◌+◌, ◌-◌, ◌≤◌, ◌<◌}
 use native.Mathlib.Omega.{arith}
 use lib.Dec.{leb}
@@ -13,7 +13,7 @@ use Rattle.listing.specs.Digits.{digits}
 use Rattle.listing.specs.Lines.{SPACE, LINE_FEED, header_line, node_field, type_word, node_line, key_line}
 use Rattle.listing.specs.Listing.{line_at}
 use Rattle.listing.specs.Output.{write, Put, put, puts}
-use Rattle.listing.proofs.WriteLaws.{digits_length, word_length, write_length, write_append}
+use Rattle.listing.proofs.WriteLaws.{digits_length, word_length, write_append}
 
 -- what `put_digits` and `put_word` promise
 abbrev pub PutDigits : List ℕ → ℕ → ℕ → ℕ → List ℕ → ℕ → Type 0

@@ -5,7 +5,7 @@ use mathlib.Core.List.{List, [], ◌∷◌, ◌++◌, append_assoc, append-nil}
 use Prim.Native.Nat.{ℕ, zero, suc, ◌+◌, ◌-◌, ◌/◌, ◌%◌, ◌≤◌, ◌<◌}
 use native.Mathlib.Nat.{add-zero}
 use native.Mathlib.Omega.{arith}
-use lib.ListN.{length, get_or, set, take, drop, length-append, length-set, take-append-drop}
+use lib.ListN.{length, set, take, drop, length-append, length-set, take-append-drop}
 use lib.Seq.{sets, sets-eq, length-sets, take-set-le, drop-set-add, drop-cons, append_snoc}
 use Rattle.listing.specs.Digits.{glyph, digits}
 use Rattle.listing.specs.Output.{write}

@@ -1,5 +1,5 @@
 -- The whole listing of a script: document 01, section "Program": the header, then the nodes, then the keys. "A refusal is its header alone", since it has no nodes and no keys.
-use Rattle.std.specs.Prelude.{List, [], ◌∷◌, ◌++◌, ℕ, zero, suc, ◌+◌, ◌-◌, eqb, leb}
+use Rattle.std.specs.Prelude.{List, [], ◌++◌, ℕ, zero, suc, ◌-◌, eqb, leb}
 use Rattle.tables.specs.Choose.{pick}
 use Rattle.listing.specs.declared.Header.{Header}
 use Rattle.listing.specs.Lines.{header_line, node_line, key_line}

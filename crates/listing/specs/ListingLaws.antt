@@ -1,7 +1,7 @@
 -- Theorems of the listing: digits that fit their width say the number, the listing is its lines one after the other, a refusal is its header alone, and one outcome meets a contract. Assumes nothing.
 -- Why the digits say the number: the last is what division by 16 leaves, and the others are those of the quotient, which fits one digit less.
 use Rattle.std.specs.Prelude.{◌≡◌, refl, Bool, true, false, List, [], ◌∷◌, ◌++◌, ℕ, zero, suc, ◌+◌, ◌-◌, ◌*◌, ◌/◌, ◌%◌, ◌^◌, ◌≤◌, ◌<◌, eqb, leb, ltb, length, take, drop}
-use Rattle.std.proofs.Common.{sym, ap, subst, ◌∙◌, append_assoc, append-nil, pow-suc, mod-lt, div-lt_iff_lt-mul, add-one, arith, length-append, take_at, length-take-le, lt-ltb, le-ltb, ltb-true, ltb-false, le-leb, leb-true, ne_eqb}
+use Rattle.std.proofs.Common.{sym, ap, subst, ◌∙◌, append_assoc, append-nil, pow-suc, mod-lt, div-lt_iff_lt-mul, arith, length-append, take_at, length-take-le, lt-ltb, le-ltb, ltb-true, ltb-false, le-leb, leb-true, ne_eqb}
 use Rattle.std.proofs.Math.Nat.{div-add-mod}
 use Rattle.std.proofs.lemmas.Bool.{lt-leb}
 use Rattle.tables.specs.Choose.{pick}

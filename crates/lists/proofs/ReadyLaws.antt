@@ -1,5 +1,5 @@
 -- For the proof: what carrying a row out needs of the tables is there, where the nodes are those of the finished trees and the state is good. Assumes nothing.
-use Rattle.std.specs.Prelude.{◌≡◌, Bool, true, false, List, ◌∷◌, ◌⊎◌, ℕ, zero, suc, ◌+◌, ◌*◌, ◌≤◌, ◌<◌, length}
+use Rattle.std.specs.Prelude.{Bool, true, false, List, ◌∷◌, ℕ, zero, suc, ◌+◌, ◌*◌, ◌≤◌, ◌<◌, length}
 use Rattle.std.proofs.Common.{ap, ⊎_elim, arith}
 use Rattle.tables.specs.Choose.{pick}
 use Rattle.tables.specs.Tables.{newest}

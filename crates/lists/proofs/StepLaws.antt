@@ -1,5 +1,5 @@
 -- For the proof: a step on lists does what the step on trees does, and what it needs of the tables is there. The nodes and keys are those of the finished trees (crate `forest`); that a row finds enough of them is `Good` of crate `standard`. Assumes nothing.
-use Rattle.std.specs.Prelude.{◌≡◌, refl, Bool, true, false, List, ◌∷◌, ◌++◌, ◌⊎◌, ℕ, zero, suc, ◌+◌, leb, length}
+use Rattle.std.specs.Prelude.{◌≡◌, refl, Bool, true, false, List, ◌∷◌, ◌++◌, ◌⊎◌, ℕ, zero, suc, leb, length}
 use Rattle.std.proofs.Common.{ap, append-nil, ⊎_elim, inl, inr}
 use Rattle.std.proofs.lemmas.Bool.{false≢true}
 use Rattle.tables.specs.Choose.{pick}
@@ -19,7 +19,6 @@ use Rattle.judge.specs.Nodes.{Making, new_leaf, reduce_one, reduce_two, reduce_t
 use Rattle.judge.specs.Nodes as judging
 use Rattle.forest.specs.Forest.{Forest, Agrees}
 use Rattle.forest.proofs.ForestLaws.{nodes_counted, keys_counted, leaf_made, leaf_refused, thresh_refused, wrap_agrees, join_agrees, and_or_agrees, thresh_agrees}
-use Rattle.forest.proofs.TableLaws.{finished}
 use Rattle.lists.specs.Lists.{Lists, Next, goes, stops, fitting, goes_on, made, perform, performed, step_by}
 
 -- the same work list and tokens, and the nodes and keys of the finished trees

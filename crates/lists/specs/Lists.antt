@@ -4,7 +4,6 @@ use Rattle.tables.specs.Choose.{pick}
 use Rattle.lex.specs.Token.{Lexeme}
 use Rattle.standard.specs.Table.{Node}
 use Rattle.standard.specs.Rows.{NonTerm, row_of}
-use Rattle.standard.specs.Machine as machine
 use Rattle.standard.specs.Machine.{Refusal, refusal, Limits}
 use Rattle.row.specs.Request.{Request, refused, entries, keys_node, oneChild, twoChildren, three_children, many_children, Reading, reading, reading_asked}
 use Rattle.row.specs.Request as request

@@ -1,9 +1,9 @@
 -- The records that are written over from the first on: what holds after each store, over plain lists. Assumes nothing.
 --     over t n j i l      l, whose head is record number j, with the table's records written over it from its place i on
---     over-next, over-end    a store at place i is one place less to write; with none left it is l
---     over-all     written over whole, it is the table
+--     over_next, over_end    a store at place i is one place less to write; with none left it is l
+--     over_all     written over whole, it is the table
 use mathlib.Core.Path.{◌≡◌, refl, sym, ◌∙◌, ap}
-use Prim.Native.Nat.{ℕ, zero, suc, ◌<◌, ◌≤◌, ◌+◌, ◌-◌, ◌*◌}
+use Prim.Native.Nat.{ℕ, zero, suc, ◌<◌, ◌≤◌, ◌+◌, ◌-◌}
 use native.Mathlib.Omega.{arith}
 use native.Mathlib.Nat.{not-suc-le-zero, le_of_suc-le-suc, add-zero}
 use mathlib.Core.List.{List, [], ◌∷◌, ◌++◌}

@@ -1,9 +1,9 @@
 -- Records stored in a flat table one after the other: what is still to be stored after each, over plain lists. Assumes nothing.
 --     put_all i rs t    the records' numbers stored in t, the first record's as node number i
---     stored_next, stored-end      a record stored is one less to store; with none left it is the table
---     stored-all       all of them stored, their numbers stand at the table's front
-use mathlib.Core.Path.{◌≡◌, refl, sym, ◌∙◌, ap}
-use Prim.Native.Nat.{ℕ, zero, suc, ◌<◌, ◌≤◌, ◌+◌, ◌*◌}
+--     stored_next, stored_end      a record stored is one less to store; with none left it is the table
+--     stored_all       all of them stored, their numbers stand at the table's front
+use mathlib.Core.Path.{◌≡◌, sym, ◌∙◌, ap}
+use Prim.Native.Nat.{ℕ, suc, ◌<◌, ◌≤◌, ◌+◌, ◌*◌}
 use native.Mathlib.Omega.{arith}
 use mathlib.Core.List.{List, [], ◌∷◌, ◌++◌, map, append_assoc}
 use lib.ListN.{length, get_or, take, drop, take-append-drop, drop_of_length-le, length-append}

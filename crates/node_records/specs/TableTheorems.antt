@@ -1,6 +1,6 @@
 -- What a table of records holds, held against the nodes of the flat table. Assumes nothing.
 -- Why: node i of a flat table is the nine numbers from 9 * i on (node_store's NodeLaws), and a record has the same nine.
-use Rattle.std.specs.Prelude.{◌≡◌, refl, List, [], ◌∷◌, ◌++◌, map, ℕ, zero, suc, ◌+◌, ◌-◌, ◌*◌, ◌<◌, length, get_or, replicate}
+use Rattle.std.specs.Prelude.{◌≡◌, refl, List, [], ◌∷◌, ◌++◌, map, ℕ, suc, ◌+◌, ◌-◌, ◌<◌, length, get_or, replicate}
 use Rattle.std.proofs.Common.{sym, ap, ◌∙◌, arith}
 use Rattle.tables.specs.Tables.{flat}
 use Rattle.standard.specs.Table as standard

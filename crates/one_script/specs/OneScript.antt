@@ -1,13 +1,14 @@
 -- Two accepted scripts of one kind with the same tree are the same bytes, but for the one spelling that tokens don't fix: NUMEQUAL and VERIFY where NUMEQUALVERIFY may stand. In kind 0 that spelling never occurs.
 -- Why: the same tree is written with the same lexemes whatever their places, and a script is the spelling of its lexemes.
-use Rattle.std.specs.Prelude.{◌≡◌, true, List, map, ℕ}
-use Rattle.lex.specs.Token.{Bytes, lexeme}
+use Rattle.std.specs.Prelude.{◌≡◌, true, List, ℕ}
+use Rattle.lex.specs.Token.{Bytes}
 use Rattle.spelling.specs.Spell.{spelling}
 use Rattle.spelling.specs.Lexemes.{lexemes, Spells, NoNumEqualVerify}
 use Rattle.spelling.proofs.ScriptSpelling.{lexed_is_spelled, same_lexemes_same_bytes, same_lexemes_same_script}
 use Rattle.standard.specs.Tree.{SameTree}
 use Rattle.standard.specs.Outcome.{Lengths, token_room}
-use Rattle.standard.proofs.Demand3.{HandedOut, same_tree_same_tokens}
+use Rattle.standard.specs.Statements.{HandedOut}
+use Rattle.standard.proofs.Demand3.{same_tree_same_tokens}
 use Rattle.one_script.specs.SegwitSpelling.{free, segwit_free, free_spelling}
 
 module _ (kind : ℕ) (script other : List ℕ) (lengths otherLengths : Lengths) (bytes : Bytes script) (otherBytes : Bytes other) (h : HandedOut kind script lengths) (g : HandedOut kind other otherLengths) where

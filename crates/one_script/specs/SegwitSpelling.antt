@@ -1,16 +1,16 @@
 -- In kind 0 no NUMEQUALVERIFY is spelled: a multi_a is not allowed there, and nothing else is written with NUMEQUAL.
-use Rattle.std.specs.Prelude.{◌≡◌, refl, Bool, true, false, ◌&&◌, not, List, [], ◌∷◌, ◌++◌, ℕ, zero, suc, ◌+◌, ◌-◌, ◌≤◌, ◌<◌, eqb, leb, ltb, length}
-use Rattle.std.proofs.Common.{sym, ap, ◌∙◌, true≢false, arith, eqb-true, leb-true}
+use Rattle.std.specs.Prelude.{◌≡◌, refl, Bool, true, false, ◌&&◌, not, List, [], ◌∷◌, ◌++◌, ℕ, ◌+◌, ◌≤◌, eqb, leb}
+use Rattle.std.proofs.Common.{sym, ◌∙◌, true≢false, arith, leb-true}
 use Rattle.std.proofs.lemmas.Bool.{eqb-false, not-true}
 use Rattle.tables.specs.Choose.{pick}
-use Rattle.lex.specs.Token.{Data, Lexeme, op, num, push, EQUAL, NUMEQUAL, CHECKSIG, CHECKMULTISIG, VERIFY, NOTIF, ELSE, ENDIF, ADD}
+use Rattle.lex.specs.Token.{Lexeme, op, num, push, EQUAL, NUMEQUAL, CHECKSIG}
 use Rattle.instruction.proofs.LowLaws.{below}
-use Rattle.spelling.specs.Spell.{has_fused, fused_byte, digits, number_bytes, opcode_byte, instruction_bytes, verified_bytes, is_verify, is_fusible, fuses, spelling, push_bytes}
+use Rattle.spelling.specs.Spell.{has_fused, fused_byte, digits, number_bytes, opcode_byte, instruction_bytes, verified_bytes, fuses, spelling, push_bytes}
 use Rattle.spelling.specs.Lexemes.{Formed, AllFormed, NoNumEqualVerify}
 use Rattle.tables.proofs.BoolLaws.{left_true, right_true}
 use Rattle.standard.specs.Tree.{Key, key, sha256, hash256, ripemd160, hash160, Leaf, True, False, PkK, RawPkH, After, Older, HashLock, Multi, MultiA, Wrapper, alt, swap, check, dupIf, verify, nonZero, zeroNotEqual, Combination, and_v, and_b, or_b, or_d, or_c, or_i, Tree, Trees, leaf, wrap, join, and_or, thresh, nil, ◌⊳◌}
-use Rattle.standard.specs.Written.{keys_before, added_keys_before, leaf_before, opening, closing, first, between, last, tree_before, added_trees_before, written}
-use Rattle.standard.specs.Allowed.{all_multi_a_keys, multi_a_threshold, thresh_allowed, allowed_leaf, allowed, all_allowed}
+use Rattle.standard.specs.Written.{keys_before, leaf_before, opening, closing, first, between, last, tree_before, added_trees_before, written}
+use Rattle.standard.specs.Allowed.{multi_a_threshold, thresh_allowed, allowed_leaf, allowed, all_allowed}
 
 abbrev is_num_equal : Lexeme → Bool
 is_num_equal (op c) = eqb c NUMEQUAL

@@ -1,6 +1,7 @@
 // For a caller who keeps the records in an array of its own: a record of a reading, and a script that is read into records and
 // written again from those very records.
 #![tactic(auto)]
+
 ghost use Rattle.std.specs.Prelude.{◌≡◌, ◌<◌, get_or};
 ghost use Rattle.decode.specs.Read.{lengths_of};
 ghost use Rattle.node_records.specs.Records.{zero_record};

@@ -7,6 +7,7 @@
 // a refusal there is no node, so the encoder refuses with 21.
 // The stored output is that of tests/record_cases.py, a reading of document 01 in Python.
 #![tactic(auto)]
+
 ghost use Rattle.std.specs.Prelude.{◌≡◌, ◌+◌, ◌-◌, ◌*◌, ◌≤◌, ◌<◌, length};
 
 use cursor::NextToken;

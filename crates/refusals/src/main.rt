@@ -1,5 +1,6 @@
 // The desk on a stored list: every number that the program can give, with its place (crates/refusals/cases).
 #![tactic(auto)]
+
 fn main(rt: HostRuntime) {
     desk::run(rt);
 }

@@ -3,11 +3,9 @@
 use mathlib.Core.Path.{◌≡◌, refl, sym, ap, subst, ◌∙◌}
 use mathlib.Core.Bool.{Bool, true, false, not}
 use mathlib.Core.List.{List, [], ◌∷◌}
-use Prim.Native.Nat.{ℕ, zero, suc, ◌+◌, ◌-◌, ◌≤◌, ◌<◌}
+use Prim.Native.Nat.{ℕ, suc, ◌+◌, ◌≤◌, ◌<◌}
 use native.Mathlib.Omega.{arith}
-use native.Mathlib.Nat.{add_comm}
-use native.Mathlib.Numerals.{add-one}
-use borrow.Author.Tests.{eq-eqb, ne_eqb, le-leb, lt-leb, lt-ltb, le-ltb, eqb-true, eqb-false, leb-true, leb-false, ltb-true, ltb-false, not-true}
+use borrow.Author.Tests.{eq-eqb, ne_eqb, le-leb, lt-leb, eqb-true, eqb-false, leb-true, leb-false, ltb-false, not-true}
 use lib.Dec.{eqb, leb, ltb}
 use lib.ListN.{length, take, drop, get_or, length-drop}
 use lib.Seq.{drop-drop, get_or-drop, get_or-take, length-take-le}
@@ -19,7 +17,7 @@ use Rattle.instruction.specs.declared.Number.{Number}
 use Rattle.instruction.specs.declared.Number.TheVariants.{Is, NotMinimal, Negative}
 use Rattle.instruction.specs.declared.Lexed.{Lexed}
 use Rattle.instruction.specs.declared.Lexed.TheVariants as gives
-use Rattle.lex.specs.Token.{Bytes, Token, token, Data, Lexeme, op, num, push, data_length, data_at, lexeme, VERIFY}
+use Rattle.lex.specs.Token.{Bytes, token, Lexeme, op, num, push, data_length, data_at, lexeme, VERIFY}
 use Rattle.instruction.specs.Opcode.{op_of, ranged}
 use Rattle.instruction.specs.Number.{little_endian, number_of}
 use Rattle.instruction.specs.Push.{small, has_opcode, pushed, numbered, push_of, sized_of}

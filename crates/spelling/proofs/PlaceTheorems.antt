@@ -1,14 +1,14 @@
 -- Places rise from instruction to instruction, the two tokens of a fused opcode share one, and pushed data starts one byte behind its token's place and lies within the script. Assumes nothing.
 use mathlib.Core.Path.{◌≡◌, refl, sym, ap, subst, ◌∙◌}
 use mathlib.Core.List.{List, ◌∷◌}
-use Prim.Native.Nat.{ℕ, ◌+◌, ◌-◌, ◌≤◌, ◌<◌}
+use Prim.Native.Nat.{ℕ, ◌+◌, ◌-◌, ◌≤◌}
 use native.Mathlib.Omega.{arith}
 use native.Mathlib.Nat.{add-zero}
 use borrow.Author.Tests.{ne_eqb, le-leb}
 use lib.ListN.{length, take, drop, get_or, length-drop}
 use lib.Seq.{get_or-drop, get_or-take}
 use Rattle.tables.proofs.ListLaws.{take_whole}
-use Rattle.lex.specs.Token.{Bytes, Token, token, Data, Lexeme, op, num, push, data_length, data_at, lexeme, VERIFY}
+use Rattle.lex.specs.Token.{Bytes, Token, token, push, data_length, data_at, lexeme}
 use Rattle.lex.specs.Script.{lex_of, tokens}
 use Rattle.instruction.proofs.SizeLaws.{one_fits, two_fits}
 use Rattle.lex.proofs.Derivation.{Gives, done, one, two, derived}

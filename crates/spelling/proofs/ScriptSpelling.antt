@@ -2,10 +2,10 @@
 -- Why: each instruction is its lexeme's spelling, and where the spelling would fuse two of them, the VERIFY rule leaves NUMEQUAL alone.
 use mathlib.Core.Path.{◌≡◌, refl, sym, ap, subst, ◌∙◌}
 use mathlib.Core.Bool.{Bool, true, false, true≢false}
-use mathlib.Core.List.{List, [], ◌∷◌, ◌++◌, append_assoc, map}
-use Prim.Native.Nat.{ℕ, ◌+◌, ◌*◌, ◌≤◌, ◌<◌}
+use mathlib.Core.List.{List, [], ◌∷◌, ◌++◌, map}
+use Prim.Native.Nat.{ℕ, ◌+◌, ◌≤◌}
 use native.Mathlib.Omega.{arith}
-use borrow.Author.Tests.{eq-eqb, ne_eqb, eqb-true, eqb-false}
+use borrow.Author.Tests.{eqb-true}
 use lib.Dec.{eqb, leb}
 use lib.ListN.{length, take, drop, drop_of_length-le, take-append-drop}
 use lib.Seq.{drop-drop}
@@ -13,12 +13,12 @@ use Rattle.tables.specs.Choose.{pick}
 use Rattle.tables.proofs.BoolLaws.{picked_both}
 use Rattle.tables.specs.Tables.{flat}
 use Rattle.lex.specs.Token.{Bytes, Token, token, Data, Lexeme, op, num, push, data_length, data_at, lexeme, bare, NUMEQUAL, VERIFY}
-use Rattle.instruction.specs.Instruction.{verify_refused, instruction_of}
+use Rattle.instruction.specs.Instruction.{verify_refused}
 use Rattle.lex.specs.Script.{lex_of, tokens}
 use Rattle.lex.proofs.Derivation.{Gives, done, one, two, derived}
-use Rattle.spelling.specs.Spell.{opcode_byte, has_fused, fused_byte, digits, number_bytes, instruction_bytes, verified_bytes, is_verify, is_fusible, fuses, spelling, spell}
+use Rattle.spelling.specs.Spell.{has_fused, fused_byte, instruction_bytes, verified_bytes, is_verify, is_fusible, fuses, spelling, spell}
 use Rattle.spelling.specs.Lexemes.{Formed, AllFormed, lexemes, ButForNumEqualVerify, none, same, apart, Spells, NoNumEqualVerify}
-use Rattle.spelling.proofs.InstructionSpelling.{fused_code, fused_low, lexeme_op, lexeme_num, Canonical, instruction_canonical}
+use Rattle.spelling.proofs.InstructionSpelling.{fused_low, lexeme_op, Canonical, instruction_canonical}
 
 -- ---- what a lexeme says of its token's code
 of_code : (P : Lexeme → Bool) (s : List ℕ) (c v at : ℕ) → ((n : ℕ) → P (num n) ≡ false) → ((k : ℕ) (d : Data) → P (push k d) ≡ false) → P (lexeme s (token c v at)) ≡ true → (lexeme s (token c v at) ≡ op c) × (P (op c) ≡ true)

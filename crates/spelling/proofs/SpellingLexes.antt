@@ -2,10 +2,10 @@
 -- Why: the opcode table is computed at each code's byte, a push of at most 75 bytes is read whole, and the spelling fuses exactly where the VERIFY rule would refuse.
 use mathlib.Core.Path.{◌≡◌, refl, sym, ap, subst, ◌∙◌}
 use mathlib.Core.Bool.{Bool, true, false, true≢false}
-use mathlib.Core.List.{List, [], ◌∷◌, ◌++◌, append-nil, map}
-use Prim.Native.Nat.{ℕ, zero, suc, ◌+◌, ◌-◌, ◌≤◌, ◌<◌}
+use mathlib.Core.List.{List, [], ◌∷◌, ◌++◌, map}
+use Prim.Native.Nat.{ℕ, suc, ◌+◌, ◌-◌, ◌≤◌, ◌<◌}
 use native.Mathlib.Omega.{arith}
-use borrow.Author.Tests.{eq-eqb, ne_eqb, le-leb, lt-leb, eqb-true, eqb-false, leb-true, leb-false}
+use borrow.Author.Tests.{ne_eqb, le-leb, eqb-true, eqb-false, leb-true, leb-false}
 use lib.Dec.{eqb, leb}
 use lib.ListN.{length, take, drop, get_or, length-drop, length-append, length-map, get_or-append}
 use lib.Seq.{drop-drop, take_at, drop_at}
@@ -16,9 +16,8 @@ use Rattle.instruction.specs.declared.Op.{Op}
 use Rattle.instruction.specs.declared.Op.TheVariants.{Push, Sized, Num, One, Fused, Verify, Unlisted}
 use Rattle.instruction.specs.declared.Number.{Number}
 use Rattle.instruction.specs.declared.Number.TheVariants.{Is}
-use Rattle.instruction.specs.declared.Lexed.{Lexed}
 use Rattle.instruction.specs.declared.Lexed.TheVariants as gives
-use Rattle.lex.specs.Token.{Bytes, Token, token, Data, Lexeme, op, num, push, data_length, data_at, lexeme, bare, VERIFY, NUM}
+use Rattle.lex.specs.Token.{Token, token, Lexeme, op, num, push, data_length, data_at, lexeme, bare, VERIFY, NUM}
 use Rattle.instruction.specs.Opcode.{op_of, ranged}
 use Rattle.instruction.specs.Number.{minimal, number_of}
 use Rattle.instruction.specs.Push.{small, has_opcode, pushed, numbered, push_of}

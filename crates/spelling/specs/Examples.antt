@@ -1,6 +1,6 @@
 -- Worked examples of the spelling, each by computation.
-use Rattle.std.specs.Prelude.{◌≡◌, refl, List, [], ◌∷◌, replicate}
-use Rattle.lex.specs.Token.{EQUAL, NUMEQUAL, CHECKSIG, VERIFY, IF, HASH20, Lexeme, op, num, push}
+use Rattle.std.specs.Prelude.{◌≡◌, refl, [], ◌∷◌, replicate}
+use Rattle.lex.specs.Token.{EQUAL, NUMEQUAL, CHECKSIG, VERIFY, IF, HASH20, op, num, push}
 use Rattle.spelling.specs.Spell.{has_fused, fused_byte, digits, number_bytes, spell}
 
 -- 0, 16, 17, 128, 32,768 and the largest number

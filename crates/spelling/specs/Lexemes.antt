@@ -1,7 +1,7 @@
 -- Which lists of lexemes a script can give, and the one spelling that tokens don't fix: NUMEQUAL VERIFY written as two instructions (document 01: "VERIFY after NumEqual passes").
 use Rattle.std.specs.Prelude.{◌≡◌, List, [], ◌∷◌, map, ℕ, ◌≤◌, ◌<◌, length}
 use Rattle.tables.specs.Tables.{flat}
-use Rattle.lex.specs.Token.{Bytes, HASH20, BYTES65, HASH256, data_length, Token, lexeme, Lexeme, op, num, push, Data}
+use Rattle.lex.specs.Token.{Bytes, HASH20, BYTES65, HASH256, data_length, Token, lexeme, Lexeme, op, num, push}
 use Rattle.spelling.specs.Spell.{spelling}
 
 -- an opcode of the 27, a number below 2^31, or a push of as many bytes as its code says

@@ -1,8 +1,8 @@
 -- The canonical bytes of a list of lexemes: Bitcoin's opcodes, BIP 379's four fused forms, the shortest push and the shortest number. Written without the lexer.
-use Rattle.std.specs.Prelude.{Bool, true, false, List, [], ◌∷◌, ◌++◌, ℕ, ◌+◌, ◌-◌, ◌/◌, ◌%◌, eqb, leb, ltb, length, get_or}
+use Rattle.std.specs.Prelude.{Bool, true, false, List, [], ◌∷◌, ℕ, ◌+◌, ◌-◌, ◌/◌, ◌%◌, eqb, leb, ltb, length, get_or}
 use Rattle.tables.specs.Choose.{pick}
 use Rattle.tables.specs.Tables.{flat}
-use Rattle.lex.specs.Token.{EQUAL, NUMEQUAL, CHECKSIG, CHECKMULTISIG, VERIFY, Lexeme, op, num, push, Data}
+use Rattle.lex.specs.Token.{EQUAL, NUMEQUAL, CHECKSIG, CHECKMULTISIG, VERIFY, Lexeme, op, num, push}
 
 -- Bitcoin's opcodes in the order of the token codes, from BOOLAND 1 to HASH256 27
 abbrev pub opcodes : List ℕ

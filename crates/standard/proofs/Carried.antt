@@ -17,6 +17,7 @@ use Rattle.standard.specs.Allowed.{within}
 use Rattle.standard.specs.Types.{type_of}
 use Rattle.standard.specs.Rows.{NonTerm, Expression, MaybeAndV}
 use Rattle.standard.specs.Machine.{State, Refusal, refusal, Next, goes, stops, goes_on, step, Limits, fitting, step_within, start, after, Verdict, accepted, refused, Run, ends, top_is, closes, when_empty, carry_on, decode, never}
+use Rattle.standard.specs.Statements.{Ample}
 use Rattle.standard.proofs.Sound.{Good, Passed, start_good, step_good, end_good}
 use Rattle.standard.proofs.Runs.{begin, run}
 use Rattle.standard.proofs.Bound.{pushes, Bounded, begin_bounded, step_bounded, work_le}
@@ -32,10 +33,6 @@ fitting_keeps P limits (goes s) p f = by (leb (key_counts s.done) limits.keys) (
     by true true false = f _ refl
     by true false c = f _ refl
     by false b c = f _ refl
-
--- Ample for t tokens with d pushes
-abbrev pub Ample : Limits → ℕ → ℕ → Type 0
-Ample limits t d = (8 * t + 2 ≤ limits.work) × (2 * t ≤ limits.nodes) × (d ≤ limits.keys)
 
 ample_fits : (limits : Limits) (t d n : ℕ) → Ample limits t d → (a : Next) → Bounded t d n a → fitting limits a ≡ a
 ample_fits limits t d n h (stops r) b = refl

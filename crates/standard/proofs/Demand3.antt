@@ -19,54 +19,27 @@ use Rattle.lex.proofs.Theorems.{tokens_at_most_twice, same_tokens_in_any_room, a
 use Rattle.tables.specs.Choose.{pick}
 use Rattle.tables.specs.Tables.{zeros}
 use Rattle.standard.specs.Tree.{Tree, nil, ◌⊳◌, SameTree, left_nested}
-use Rattle.standard.specs.Written.{written}
 use Rattle.standard.specs.RowForm.{row_form}
-use Rattle.standard.specs.Allowed.{within, allowed}
-use Rattle.standard.specs.Types.{type_of, WellTypedB}
-use Rattle.standard.specs.Table.{node_table, key_table, tree_of, TreeOf}
+use Rattle.standard.specs.Allowed.{within}
+use Rattle.standard.specs.Types.{type_of}
+use Rattle.standard.specs.Table.{node_table, key_table, tree_of}
 use Rattle.standard.specs.Machine.{Verdict, accepted, refused, Run, ends, decode}
-use Rattle.standard.specs.Outcome.{Lengths, token_room, limits_of, Outcome, refusing, accepting, judged, lexed, outcome_of, ample_for}
+use Rattle.standard.specs.Outcome.{Lengths, token_room, limits_of, Outcome, refusing, judged, lexed, outcome_of, ample_for}
+use Rattle.standard.specs.Statements.{Ample, WrittenWith, Accepts, bares, AmpleLengths, NoRoomRefusal, WrittenWithTokens, HandedOut}
 use Rattle.standard.proofs.Bound.{pushes, pushes_le}
-use Rattle.standard.proofs.Carried.{Ample}
-use Rattle.standard.proofs.ReadLexemes.{WrittenWith, Accepts, accepted_is_written, exactly, steps_at_most, never_empty}
+use Rattle.standard.proofs.ReadLexemes.{accepted_is_written, exactly, steps_at_most, never_empty}
 use Rattle.standard.proofs.ReadLexemes as reads
 use Rattle.standard.proofs.RuleLaws.{within_range}
 use Rattle.standard.proofs.TableLaws.{read_back}
-use Rattle.standard.proofs.PlaceLaws.{bares, same_tree_same_lexemes}
+use Rattle.standard.proofs.PlaceLaws.{same_tree_same_lexemes}
 use Rattle.standard.proofs.ScriptLaws.{lexing_numbers, pushes_at_most_bytes, tree_of_script}
-
--- What is ample: document 01's "2b tokens, 4b nodes, b keys, 16b + 2 work entries", for b bytes
-abbrev pub AmpleLengths : ℕ → Lengths → Type 0
-AmpleLengths b lengths = (2 * b ≤ token_room lengths) × (4 * b ≤ (limits_of lengths).nodes) × (b ≤ (limits_of lengths).keys) × (16 * b + 2 ≤ (limits_of lengths).work)
 
 pub ample_lengths : (b : ℕ) → AmpleLengths b (ample_for b)
 ample_lengths b = (omega arith, omega arith, omega arith, omega arith)
 
--- A tree of base B, well typed and allowed, written with these tokens of the script: "tokens are compared there by code, number and pushed bytes, whatever their places"
-abbrev pub WrittenWithTokens : Bool → List ℕ → List Token → Tree → Type 0
-WrittenWithTokens segwit script tokens t = (bares (written t) ≡ bares (map (lexeme script) tokens)) × ((allowed segwit t ≡ true) × WellTypedB segwit t)
-
--- What is handed out: the tables hold a tree that is written with exactly the script's tokens
-pub record HandedOut (kind : ℕ) (script : List ℕ) (lengths : Lengths) : Type 0 where
-  pub known_kind : kind ≤ 1
-  pub tokens : List Token
-  pub lexes : lex_of (token_room lengths) script ≡ lex.tokens tokens
-  pub tree : Tree
-  pub written_with : written tree ≡ map (lexeme script) tokens
-  pub allowed_values : allowed (eqb kind 0) tree ≡ true
-  pub well_typed : WellTypedB (eqb kind 0) tree
-  pub of_script : TreeOf script tree
-  pub steps : ℕ
-  pub reads : decode (eqb kind 0) (limits_of lengths) (map (lexeme script) tokens) ≡ ends steps (accepted tree)
-  pub outcome : outcome_of kind script lengths ≡ accepting lengths tokens steps (node_table (eqb kind 0) (tree ⊳ nil)) (key_table (tree ⊳ nil))
-
 -- an impossible number
 no_zero : {A : Type 0} (n : ℕ) → within 9 n 19 ≡ true → n ≡ 0 → A
 no_zero n w e = let z : within 9 0 19 ≡ true = rw e at w in absurd (true≢false (sym z))
-
--- none of 8, 15, 16, 17
-abbrev pub NoRoomRefusal : ℕ → Type 0
-NoRoomRefusal n = (within 15 n 17 || eqb n 8) ≡ false
 
 low_number : (n : ℕ) → n ≤ 8 → (n ≡ 8 → ⊥) → NoRoomRefusal n
 low_number n h f = rw (lt-leb 15 n (omega arith), ne_eqb n 8 f)

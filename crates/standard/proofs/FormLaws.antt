@@ -1,4 +1,4 @@
--- The form that the rows build, node by node: what it asks of a node beside the form of its children, there (`..-form`) and back (`..-form-parts`). Places don't matter to it (`bare_row_form`).
+-- The form that the rows build, node by node: what it asks of a node beside the form of its children, there (`.._form`) and back (`.._form_parts`). Places don't matter to it (`bare_row_form`).
 use Rattle.std.specs.Prelude.{◌≡◌, refl, Bool, true, false, ◌&&◌, not, ℕ}
 use Rattle.std.proofs.Common.{sym, ap, ◌∙◌}
 use Rattle.std.proofs.lemmas.Bool.{not-true}

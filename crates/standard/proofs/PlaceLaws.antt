@@ -1,12 +1,13 @@
 -- Places don't matter: a tree's type and allowed values are those of the bare tree (`bare_type`, `bare_allowed`), the same tree is written with the same bare lexemes (`same_tree_same_lexemes`), and lexemes that are a tree's but for their places are written by that tree with other places (`replaced`).
-use Rattle.std.specs.Prelude.{◌≡◌, refl, Bool, true, false, List, [], ◌∷◌, ◌++◌, map, ℕ, suc, length}
+use Rattle.std.specs.Prelude.{◌≡◌, refl, Bool, true, false, List, [], ◌∷◌, ◌++◌, ℕ, suc, length}
 use Rattle.std.proofs.Common.{sym, ap, ◌∙◌, arith}
-use Rattle.lex.specs.Token.{Data, Lexeme, op, num, push, bare}
+use Rattle.lex.specs.Token.{Data, Lexeme, op, num, push}
 use Rattle.lex.specs.Token.{ADD, EQUAL, NUMEQUAL, CHECKSIG, CHECKSIGADD, CHECKMULTISIG, CHECKSEQUENCEVERIFY, CHECKLOCKTIMEVERIFY, DUP, NOTIF, ELSE, ENDIF, SIZE, VERIFY, HASH160, HASH20, BYTES32}
 use Rattle.standard.specs.Tree.{Key, key, Leaf, True, False, PkK, RawPkH, After, Older, HashLock, Multi, MultiA, Wrapper, alt, swap, check, dupIf, verify, nonZero, zeroNotEqual, Combination, and_v, and_b, or_b, or_d, or_c, or_i, Tree, Trees, leaf, wrap, join, and_or, thresh, nil, ◌⊳◌, many, bare_data, bare_datas, bare_key, bare_keys, bare_leaf, bare_tree, bare_trees, SameTree}
 use Rattle.standard.specs.Written.{hash_opcode, hash_push, keys_before, added_keys_before, leaf_before, opening, closing, first, between, last, tree_before, added_trees_before, written}
 use Rattle.standard.specs.Allowed.{key_form, multi_a_key, all_multi_keys, all_multi_a_keys, allowed_leaf, allowed, all_allowed}
 use Rattle.standard.specs.Types.{typed_leaf, type_of, types_of}
+use Rattle.standard.specs.Statements.{bares}
 
 -- Types and values
 
@@ -86,9 +87,6 @@ mutual
   bare_all_allowed segwit (t ⊳ ts) = simp (bare_allowed segwit t, bare_all_allowed segwit ts)
 
 -- Lexemes
-
-abbrev pub bares : List Lexeme → List Lexeme
-bares l = map bare l
 
 bare_keys_before : (ks : List Key) (rest : List Lexeme) → bares (keys_before ks rest) ≡ keys_before (bare_keys ks) (bares rest)
 bare_keys_before [] rest = refl

@@ -17,24 +17,18 @@ use Rattle.standard.specs.Written.{written}
 use Rattle.standard.specs.RowForm.{floated_out, row_form}
 use Rattle.standard.specs.Allowed.{within, allowed}
 use Rattle.standard.specs.Types.{type_of, WellTypedB}
-use Rattle.standard.specs.Machine.{State, Limits, Refusal, goes, goes_on, start, after, accepted, refused, Run, ends, top_is, carry_on, decode}
+use Rattle.standard.specs.Machine.{State, Limits, Refusal, goes, goes_on, start, after, accepted, refused, Run, top_is, carry_on, decode}
+use Rattle.standard.specs.Statements.{bares, Ample, WrittenWith, Accepts}
 use Rattle.standard.proofs.Runs.{begin, run, one_end}
 use Rattle.standard.proofs.Complete.{complete_form}
-use Rattle.standard.proofs.PlaceLaws.{bares, bare_type, bare_allowed, replaced}
+use Rattle.standard.proofs.PlaceLaws.{bare_type, bare_allowed, replaced}
 use Rattle.standard.proofs.FormLaws.{same_row_form}
 use Rattle.standard.proofs.Bound.{pushes, Bounded, work_le}
-use Rattle.standard.proofs.Carried.{Ample, Ends, EndsAmple, Working, Ended, decode_ends, decode_bounded, decode_more, decode_steps, decode_counts, decode_ample, decode_complete, accepted_run}
+use Rattle.standard.proofs.Carried.{Ends, EndsAmple, Working, Ended, decode_ends, decode_bounded, decode_more, decode_steps, decode_counts, decode_ample, decode_complete, accepted_run}
 
 module _ (segwit : Bool) where
-  -- a tree of base B, well typed and allowed, that is written with these lexemes
-  abbrev pub WrittenWith : List Lexeme → Tree → Type 0
-  WrittenWith lexemes t = (written t ≡ lexemes) × ((allowed segwit t ≡ true) × WellTypedB segwit t)
-
-  abbrev pub Accepts : Limits → List Lexeme → Tree → Type 0
-  Accepts limits lexemes t = (decode segwit limits lexemes).verdict ≡ accepted t
-
   -- What is accepted is a tree of base B, well typed and allowed, written with exactly those lexemes
-  pub accepted_is_written : (limits : Limits) (lexemes : List Lexeme) (t : Tree) → Accepts limits lexemes t → WrittenWith lexemes t
+  pub accepted_is_written : (limits : Limits) (lexemes : List Lexeme) (t : Tree) → Accepts segwit limits lexemes t → WrittenWith segwit lexemes t
   accepted_is_written limits lexemes t e =
       let h : Ends segwit lexemes (accepted t) = rw e at (decode_ends segwit limits lexemes) in
       (h.0, (h.1.0.0, (h.1.1.0, h.1.1.1, only_b h.1.1.0.base h.1.1.2)))
@@ -43,7 +37,7 @@ module _ (segwit : Bool) where
   top_accepted u c e b = rw (e, b)
 
   -- the tree that a written tree's lexemes are read to
-  found : (limits : Limits) (lexemes : List Lexeme) → Ample limits (length lexemes) (pushes lexemes) → (t : Tree) → WrittenWith lexemes t → (u : Tree) × Accepts limits lexemes u
+  found : (limits : Limits) (lexemes : List Lexeme) → Ample limits (length lexemes) (pushes lexemes) → (t : Tree) → WrittenWith segwit lexemes t → (u : Tree) × Accepts segwit limits lexemes u
   found limits lexemes h t w =
       let c = w.1.1.0 in
       let b : is_w c.base ≡ false = rw w.1.1.2 in
@@ -53,19 +47,19 @@ module _ (segwit : Bool) where
 
   -- With ample tables, lexemes are accepted exactly when some tree of base B, well typed and allowed, is written with them
   pub exactly : (limits : Limits) (lexemes : List Lexeme) → Ample limits (length lexemes) (pushes lexemes)
-      → ((t : Tree) × Accepts limits lexemes t) ↔ ((t : Tree) × WrittenWith lexemes t)
+      → ((t : Tree) × Accepts segwit limits lexemes t) ↔ ((t : Tree) × WrittenWith segwit lexemes t)
   exactly limits lexemes h =
       ((λ a. (a.0, accepted_is_written limits lexemes a.0 a.1)), (λ w. found limits lexemes h w.0 w.1))
 
   -- Whatever the tables, what is found has the same tree
-  pub one_tree : (limits other : Limits) (lexemes : List Lexeme) (t u : Tree) → Accepts limits lexemes t → Accepts other lexemes u → t ≡ u
+  pub one_tree : (limits other : Limits) (lexemes : List Lexeme) (t u : Tree) → Accepts segwit limits lexemes t → Accepts segwit other lexemes u → t ≡ u
   one_tree limits other lexemes t u a b =
       let p = accepted_run segwit limits lexemes t a in
       let q = accepted_run segwit other lexemes u b in
       one_end segwit p.0 q.0 (begin (reverse_aux lexemes [])) t u p.1 q.1
 
   -- it is of the same type, has the rows' form, and is the written tree if that has it, whatever the tables that held it
-  found_is : (limits : Limits) (lexemes : List Lexeme) (t u : Tree) → Accepts limits lexemes t → WrittenWith lexemes u → (type_of segwit t ≡ type_of segwit u) × (row_form t ≡ true) × (row_form u ≡ true → t ≡ u)
+  found_is : (limits : Limits) (lexemes : List Lexeme) (t u : Tree) → Accepts segwit limits lexemes t → WrittenWith segwit lexemes u → (type_of segwit t ≡ type_of segwit u) × (row_form t ≡ true) × (row_form u ≡ true → t ≡ u)
   found_is limits lexemes t u a w =
       let c = w.1.1.0 in
       let b : is_w c.base ≡ false = rw w.1.1.2 in
@@ -76,23 +70,23 @@ module _ (segwit : Bool) where
       (rw e (k.1 ∙ sym w.1.1.1), rw e k.2, λ f. e ∙ k.3 f)
 
   -- What is found has the form that the rows build
-  pub accepted_has_row_form : (limits : Limits) (lexemes : List Lexeme) (t : Tree) → Accepts limits lexemes t → row_form t ≡ true
+  pub accepted_has_row_form : (limits : Limits) (lexemes : List Lexeme) (t : Tree) → Accepts segwit limits lexemes t → row_form t ≡ true
   accepted_has_row_form limits lexemes t a = (found_is limits lexemes t t a (accepted_is_written limits lexemes t a)).1
 
   -- so its and_v chains are nested to the left
-  pub chains_left : (limits : Limits) (lexemes : List Lexeme) (t : Tree) → Accepts limits lexemes t → left_nested t ≡ true
+  pub chains_left : (limits : Limits) (lexemes : List Lexeme) (t : Tree) → Accepts segwit limits lexemes t → left_nested t ≡ true
   chains_left limits lexemes t a = left_true (left_nested t) (floated_out t) (accepted_has_row_form limits lexemes t a)
 
   -- and its type is that of every other well-typed, allowed tree with those lexemes
-  pub one_type : (limits : Limits) (lexemes : List Lexeme) (t u : Tree) → Accepts limits lexemes t → WrittenWith lexemes u → type_of segwit t ≡ type_of segwit u
+  pub one_type : (limits : Limits) (lexemes : List Lexeme) (t u : Tree) → Accepts segwit limits lexemes t → WrittenWith segwit lexemes u → type_of segwit t ≡ type_of segwit u
   one_type limits lexemes t u a w = (found_is limits lexemes t u a w).0
 
   -- It is such a tree exactly where that tree has the rows' form
-  pub that_tree_exactly : (limits : Limits) (lexemes : List Lexeme) (t u : Tree) → Accepts limits lexemes t → WrittenWith lexemes u → (t ≡ u) ↔ (row_form u ≡ true)
+  pub that_tree_exactly : (limits : Limits) (lexemes : List Lexeme) (t u : Tree) → Accepts segwit limits lexemes t → WrittenWith segwit lexemes u → (t ≡ u) ↔ (row_form u ≡ true)
   that_tree_exactly limits lexemes t u a w = ((λ e. rw (← e) (accepted_has_row_form limits lexemes t a)), (found_is limits lexemes t u a w).2)
 
   -- With ample tables, a tree of the rows' form is read from its lexemes, and no other
-  pub row_form_is_accepted : (limits : Limits) (lexemes : List Lexeme) → Ample limits (length lexemes) (pushes lexemes) → (t : Tree) → WrittenWith lexemes t → row_form t ≡ true → Accepts limits lexemes t
+  pub row_form_is_accepted : (limits : Limits) (lexemes : List Lexeme) → Ample limits (length lexemes) (pushes lexemes) → (t : Tree) → WrittenWith segwit lexemes t → row_form t ≡ true → Accepts segwit limits lexemes t
   row_form_is_accepted limits lexemes h t w f =
       let u = found limits lexemes h t w in
       let e : u.0 ≡ t = (that_tree_exactly limits lexemes u.0 t u.1 w).1 f in
@@ -100,13 +94,13 @@ module _ (segwit : Bool) where
 
   -- With ample tables, the lexemes of a tree of base B, well typed and allowed, are read to a tree with the same lexemes and the same type, which is the same one exactly where the given one has the rows' form
   pub written_is_read : (limits : Limits) (t : Tree) → Ample limits (length (written t)) (pushes (written t)) → allowed segwit t ≡ true → WellTypedB segwit t
-      → (u : Tree) × Accepts limits (written t) u × (written u ≡ written t) × (type_of segwit u ≡ type_of segwit t) × ((u ≡ t) ↔ (row_form t ≡ true))
+      → (u : Tree) × Accepts segwit limits (written t) u × (written u ≡ written t) × (type_of segwit u ≡ type_of segwit t) × ((u ≡ t) ↔ (row_form t ≡ true))
   written_is_read limits t h g b =
       let u = found limits (written t) h t (refl, (g, b)) in
       (u.0, u.1, (accepted_is_written limits (written t) u.0 u.1).0, one_type limits (written t) u.0 t u.1 (refl, (g, b)), that_tree_exactly limits (written t) u.0 t u.1 (refl, (g, b)))
 
   -- a tree that is written with lexemes but for their places is, with other places, written with the very lexemes
-  pub written_elsewhere : (lexemes : List Lexeme) (t : Tree) → bares (written t) ≡ bares lexemes → allowed segwit t ≡ true → WellTypedB segwit t → (u : Tree) × WrittenWith lexemes u × (type_of segwit u ≡ type_of segwit t) × SameTree u t
+  pub written_elsewhere : (lexemes : List Lexeme) (t : Tree) → bares (written t) ≡ bares lexemes → allowed segwit t ≡ true → WellTypedB segwit t → (u : Tree) × WrittenWith segwit lexemes u × (type_of segwit u ≡ type_of segwit t) × SameTree u t
   written_elsewhere lexemes t e g b =
       let u = replaced t lexemes e in
       let ty : type_of segwit u.0 ≡ type_of segwit t = sym (bare_type segwit u.0) ∙ ap (type_of segwit) u.2 ∙ bare_type segwit t in
@@ -114,7 +108,7 @@ module _ (segwit : Bool) where
       (u.0, (u.1, (al ∙ g, (b.0, ty ∙ b.1, b.2))), ty, u.2)
 
   -- Whatever the places: what is found is the same tree as one that is written with those lexemes exactly where that one has the rows' form
-  pub same_tree_exactly : (limits : Limits) (lexemes : List Lexeme) (t u : Tree) → Accepts limits lexemes t → bares (written u) ≡ bares lexemes → allowed segwit u ≡ true → WellTypedB segwit u
+  pub same_tree_exactly : (limits : Limits) (lexemes : List Lexeme) (t u : Tree) → Accepts segwit limits lexemes t → bares (written u) ≡ bares lexemes → allowed segwit u ≡ true → WellTypedB segwit u
       → SameTree t u ↔ (row_form u ≡ true)
   same_tree_exactly limits lexemes t u a e g b =
       let v = written_elsewhere lexemes u e g b in

@@ -13,12 +13,13 @@ use Rattle.lex.specs.Room.{sizes_for, room_for, room_of}
 use Rattle.lex.proofs.Theorems.{tokens_at_most_twice, same_tokens_in_any_room, room_holds_the_tokens}
 use Rattle.tables.specs.Choose.{pick}
 use Rattle.standard.specs.Machine.{Verdict, accepted, refused, Run, decode}
-use Rattle.standard.specs.Outcome.{Lengths, token_room, limits_of, Outcome, refusing, place_of, judged, decoded, lexed, outcome_of, ample_for}
+use Rattle.standard.specs.Outcome.{Lengths, token_room, limits_of, refusing, place_of, judged, decoded, lexed, outcome_of, ample_for}
 use Rattle.standard.proofs.Bound.{pushes, pushes_le}
-use Rattle.standard.proofs.Carried.{Ample, decode_same}
+use Rattle.standard.proofs.Carried.{decode_same}
 use Rattle.standard.proofs.ScriptLaws.{pushes_at_most_bytes}
-use Rattle.standard.proofs.Demand3.{NoRoomRefusal, ample_by_tokens}
+use Rattle.standard.proofs.Demand3.{ample_by_tokens}
 use Rattle.standard.specs.RoomLaws.{lengths_for, Reading, reads, refuses, laid_out}
+use Rattle.standard.specs.Statements.{Ample, NoRoomRefusal}
 
 -- Proofs
 

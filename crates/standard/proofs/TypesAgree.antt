@@ -10,37 +10,12 @@ use Rattle.correctness.specs.Rules as rules
 use Rattle.correctness.specs.Rules.{given, onward}
 use Rattle.correctness.specs.Sanity.{Sound, SoundAnswer}
 use Rattle.correctness.proofs.SanityLaws.{leaf_sound, alt_sound, swap_sound, check_sound, dupif_sound, verify_sound, nonzero_sound, zeronotequal_sound, and_b_sound, or_b_sound, or_d_sound, or_c_sound, and_v_sound, or_i_sound, and_or_sound, threshold_sound}
-use Rattle.correctness.specs.Bip379.{Letters, letters, letters_given, andor_row, threshold_row}
+use Rattle.correctness.specs.Bip379.{Letters, letters, andor_row, threshold_row}
 use Rattle.correctness.proofs.Bip379Laws.{leaf_agrees, alt_agrees, swap_agrees, check_agrees, dupif_agrees, dupif_in_tapscript, with_u, verify_agrees, nonzero_agrees, zeronotequal_agrees, and_v_agrees, and_b_agrees, or_b_agrees, or_d_agrees, or_c_agrees, or_i_agrees, and_or_agrees, threshold_agrees}
 use Rattle.tables.proofs.BoolLaws.{left_true, right_true}
 use Rattle.standard.specs.Tree.{Wrapper, alt, swap, check, dupIf, verify, nonZero, zeroNotEqual, Combination, and_v, and_b, or_b, or_d, or_c, or_i, Tree, Trees, leaf, wrap, join, and_or, thresh, nil, ◌⊳◌}
 use Rattle.standard.specs.Types.{typed_leaf, wrapper_rule, combination_rule, AllTyped, all, not_all, and_then, ruled, type_of, types_of, bip_wrapper, bip_combination, having, having_both, bip_type, bip_types}
-
--- 01's type in BIP 379's letters
-abbrev pub letters_of : Typed → Option Letters
-letters_of o = letters_given (given o)
-
--- where 01 follows BIP 379: anywhere but at a d: in tapscript
-abbrev pub is_dup_if : Wrapper → Bool
-is_dup_if alt = false
-is_dup_if swap = false
-is_dup_if check = false
-is_dup_if dupIf = true
-is_dup_if verify = false
-is_dup_if nonZero = false
-is_dup_if zeroNotEqual = false
-
-abbrev mutual
-  pub follows : Bool → Tree → Bool
-  follows segwit (leaf l) = true
-  follows segwit (wrap w x) = (segwit || not (is_dup_if w)) && follows segwit x
-  follows segwit (join c x y) = follows segwit x && follows segwit y
-  follows segwit (and_or x y z) = follows segwit x && (follows segwit y && follows segwit z)
-  follows segwit (thresh k x xs) = follows segwit x && all_follow segwit xs
-
-  pub all_follow : Bool → Trees → Bool
-  all_follow segwit nil = true
-  all_follow segwit (t ⊳ ts) = follows segwit t && all_follow segwit ts
+use Rattle.standard.specs.Statements.{letters_of, is_dup_if, follows, all_follow}
 
 mutual
   segwit_follows : (t : Tree) → follows true t ≡ true

@@ -9,5 +9,6 @@ pub mod Rows
 pub mod Machine
 pub mod Outcome
 pub mod RowForm
+pub mod Statements
 pub mod RoomLaws
 pub mod Examples

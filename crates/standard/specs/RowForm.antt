@@ -1,6 +1,6 @@
 -- The form of the trees that the rows build: "and_v chains nested to the left and floated out of first children". A row reads one expression, and MaybeAndV after it joins what stands before; so an and_v ends up around every node that is written with nothing before its first child.
 use Rattle.std.specs.Prelude.{Bool, true, false, ◌&&◌, not}
-use Rattle.standard.specs.Tree.{Leaf, Wrapper, alt, swap, check, dupIf, verify, nonZero, zeroNotEqual, Combination, and_v, and_b, or_b, or_d, or_c, or_i, Tree, Trees, leaf, wrap, join, and_or, thresh, nil, ◌⊳◌, is_and_v_tree, left_nested}
+use Rattle.standard.specs.Tree.{Wrapper, alt, swap, check, dupIf, verify, nonZero, zeroNotEqual, Combination, and_v, and_b, or_b, or_d, or_c, or_i, Tree, Trees, leaf, wrap, join, and_or, thresh, nil, ◌⊳◌, is_and_v_tree, left_nested}
 
 -- c:, v: and n: are written with nothing before their child: its and_v's float out
 abbrev pub floats : Wrapper → Bool

@@ -26,9 +26,9 @@ use Rattle.standard.specs.Allowed.{allowed}
 use Rattle.standard.specs.Types.{type_of, WellTypedB}
 use Rattle.standard.specs.Table.{node_table, key_table, cells}
 use Rattle.standard.specs.RowForm.{row_form}
-use Rattle.standard.proofs.PlaceLaws.{bares}
 use Rattle.standard.specs.Outcome.{Lengths, token_room, outcome_of}
-use Rattle.standard.proofs.Demand3.{AmpleLengths, WrittenWithTokens, HandedOut, accepted_exactly, accepted_is_handed_out, handed_out_type, handed_out_same_tree}
+use Rattle.standard.specs.Statements.{bares, AmpleLengths, WrittenWithTokens, HandedOut}
+use Rattle.standard.proofs.Demand3.{accepted_exactly, accepted_is_handed_out, handed_out_type, handed_out_same_tree}
 use Rattle.one_script.specs.SegwitSpelling.{segwit_free, free_spelling}
 use Rattle.encoding.specs.Checks.{Found, found, refused}
 use Rattle.encoding.specs.Encoding.{Outcome, writing, refusing, written_within, node_count, tree_in, encoded, encoding_of}

@@ -6,7 +6,7 @@ use Rattle.node_records.proofs.copy_in.Given as goal
 abbrev pub invariant-loop-i : goal.invariant-loop-i
 invariant-loop-i l = record {
   same : length l.flat ≡ length l.initial.flat;
-  left : put_all l.i (drop l.i l.records) l.flat ≡ put_all 0 l.records l.initial.flat
+  left : put_all l.i (drop l.i l.records) l.flat ≡ put_all 0 l.records l.initial.flat;
 }
 
 abbrev pub decreases-loop-i : goal.decreases-loop-i

@@ -8,9 +8,9 @@ pub loop-i-preserved : goal.loop-i-preserved
 loop-i-preserved c = record {
   same = length-set c.loop-i.records c.loop-i.i c.record_at.result ∙ c.loop-i.invariant.same;
   left =
-    ap (λ (r : Node). over c.args.flat.now c.args.n 0 (c.loop-i.i + 1) (set c.loop-i.records c.loop-i.i r)) c.record_at.ensures
-    ∙ over_next c.args.flat.now c.args.n c.loop-i.i c.loop-i.records c.loop-i-test.true
-    ∙ c.loop-i.invariant.left;
+      ap (λ (r : Node). over c.args.flat.now c.args.n 0 (c.loop-i.i + 1) (set c.loop-i.records c.loop-i.i r)) c.record_at.ensures
+      ∙ over_next c.args.flat.now c.args.n c.loop-i.i c.loop-i.records c.loop-i-test.true
+      ∙ c.loop-i.invariant.left;
 }
 
 pub returns : goal.returns

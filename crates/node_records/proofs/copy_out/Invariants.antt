@@ -6,7 +6,7 @@ use Rattle.node_records.proofs.copy_out.Given as goal
 abbrev pub invariant-loop-i : goal.invariant-loop-i
 invariant-loop-i l = record {
   same : length l.records ≡ length l.initial.records;
-  left : over l.flat l.n 0 l.i l.records ≡ over l.flat l.n 0 0 l.initial.records
+  left : over l.flat l.n 0 l.i l.records ≡ over l.flat l.n 0 0 l.initial.records;
 }
 
 abbrev pub decreases-loop-i : goal.decreases-loop-i

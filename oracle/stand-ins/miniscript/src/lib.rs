@@ -1,5 +1,5 @@
 //! Stands in for: src/lib.rs of miniscript 13.2.0: the names that its modules take from the crate's root, and the two key traits.
-//! The modules under `crate-text` are the supplied files themselves, compiled from where they stand.
+//! The modules under `crate-text` are the supplied files themselves, compiled from where they stand, but for `iter/mod.rs`.
 //!
 //! What rests on it: next to nothing. The traits carry keys and hashes through unchanged, and `Error` keeps apart what the supplied
 //! text keeps apart, so that a refusal can be given document 01's number.
@@ -14,7 +14,7 @@ mod primitives {
     pub mod threshold;
 }
 
-// `iter/mod.rs` here is a link to the supplied file: it asks for `tree` beside itself, and that one is a stand-in.
+// `iter/mod.rs` here is a copy of the supplied file, which a test holds to it: it asks for `tree` beside itself, and that one is a stand-in.
 mod iter;
 
 pub mod miniscript;
