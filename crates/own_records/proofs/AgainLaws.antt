@@ -37,6 +37,10 @@ nodes_few r tokens nodes keys work records n m o e d l =
     let few : o.answer.nodes ≤ m = few_records o.nodes o.answer.nodes m (ap length (sym table) ∙ l) in
     omega (arith, d, count, few)
 
+-- the same of the records' own count
+pub front_within : (r : Answer) (tokens nodes keys work : List ℕ) (records : List Node) (n m : ℕ) (o : Outcome) → record_outcome_at r tokens nodes records keys work ≡ with_records m o → n ≡ r.nodes → length records ≡ m → n ≤ length records
+front_within r tokens nodes keys work records n m o e d l = let few : n ≤ m = nodes_few r tokens nodes keys work records n m o e d l in omega (arith, few, l)
+
 pub both_are : (kind : ℕ) (script : List ℕ) (lengths : Lengths) (o : RecordOutcome) (r : Answer) (tokens nodes keys work : List ℕ) (records : List Node) (n : ℕ) (output : List ℕ) (r' : Encoded) (nodes' work' output' : List ℕ)
     → record_outcome_at r tokens nodes records keys work ≡ o → n ≡ r.nodes → length nodes ≡ lengths.nodes → length work ≡ lengths.work
     → record_encoding_at r' output' work' nodes' ≡ record_encoding kind (take n records) (length nodes) keys script (length work) output

@@ -1,4 +1,2 @@
--- Steps of the walks, and laws of what they end with.
-pub mod Eight
-pub mod LentArray
+-- Laws of what a reading and a writing make.
 pub mod AgainLaws
