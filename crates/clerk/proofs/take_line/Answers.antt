@@ -1,0 +1,11 @@
+-- `clerk::take_line` meets its contract. The part ends within the line, or the line ends (TakingLaws).
+use Rattle.clerk.proofs.TakingLaws.{part_ended, line_ended}
+use Rattle.clerk.proofs.take_line.Goals as goal
+use Rattle.std.proofs.Common.{rules}
+use native.Mathlib.Omega.{arith}
+
+pub returns-then-n-at : goal.returns-then-n-at
+returns-then-n-at c = part_ended c.args.input.now c.args.n c.args.hand c.args.script.now c.args.nodes.now c.args.keys.now c.feed_line-stop.result.line c.feed_line-stop.new.script c.feed_line-stop.result.at 0 (search rules) c.requires.0 c.requires.1.0 c.requires.1.1 c.feed_line-stop.ensures c.if-n-at.true
+
+pub returns : goal.returns
+returns c = line_ended c.args.input.now c.args.n c.args.hand c.args.script.now c.answer-header.new.nodes c.answer-header.new.keys c.feed_line-stop.result.line c.feed_line-stop.new.script c.feed_line-stop.result.at 0 c.answer-header.result (search rules) c.requires.0 c.requires.1.1 c.feed_line-stop.ensures (omega (arith, c.if-n-at.false)) c.answer-header.ensures
