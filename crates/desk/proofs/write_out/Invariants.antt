@@ -1,0 +1,15 @@
+-- `desk::write_out` meets its contract. Each turn leaves less to be written (SendingLaws).
+use Prim.Native.Nat.{◌+◌}
+use Rattle.clerk.specs.Owed.{owed, leaves}
+use Rattle.desk.proofs.SendingLaws.{Sending}
+use Rattle.desk.proofs.write_out.Given as goal
+use lib.ListN.{length, take}
+use mathlib.Core.List.{◌++◌}
+
+abbrev pub invariant-loop-held : goal.invariant-loop-held
+invariant-loop-held l =
+    Sending l.n (take l.n l.input) (take l.initial.held.used l.initial.out ++ owed l.initial.held (take l.n l.input) l.initial.script l.initial.nodes l.initial.keys) (leaves l.initial.held (take l.n l.input) l.initial.script) l.held l.script l.nodes l.keys l.out
+
+abbrev pub decreases-loop-held : goal.decreases-loop-held
+decreases-loop-held l =
+    length (owed l.held (take l.n l.input) l.script l.nodes l.keys) + length (take l.held.used l.out)
