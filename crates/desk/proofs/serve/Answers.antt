@@ -7,4 +7,4 @@ use lib.ListN.{take}
 use mathlib.Core.Path.{sym, ◌∙◌}
 
 pub loop-rt-preserved : goal.loop-rt-preserved
-loop-rt-preserved c = λ goes_on. part_answered _ c.loop-rt.line c.loop-rt.script (take c.next-part.result.n c.next-part.new.last) _ _ (c.loop-rt.invariant (sym c.has_ended.ensures ∙ c.loop-rt-test.true)) (all_sent _ c.answer_part.result c.in-All.is c.answer_part.ensures (not_the_end c.next-part.result c.next-part.ensures.2 goes_on))
+loop-rt-preserved c = λ goes_on. part_answered _ c.loop-rt.line c.loop-rt.script (take c.next-part.result.n c.next-part.new.input) _ _ (c.loop-rt.invariant (sym c.has_ended.ensures ∙ c.loop-rt-test.true)) (all_sent _ c.answer_part.result c.in-All.is c.answer_part.ensures (not_the_end c.next-part.result c.next-part.ensures.2 goes_on))
