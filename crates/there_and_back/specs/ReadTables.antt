@@ -232,7 +232,7 @@ module _ (segwit : Bool) (script keys : List ℕ) where
       → formed_as (length script) keys (some s) (node kind number count 0 size o) ts ≡ true → value_refusal_of segwit script keys terminal (node kind number count 0 size o) ≡ 0
       → add_node segwit script keys (node kind number count 0 size o) ts ≡ some (t ⊳ us) → type_of segwit t ≡ Is c → o ≡ Is c → check_node segwit script keys (node kind number count 0 size o) ts ≡ finished (t ⊳ us)
   unfolding well_formed value_refusal
-  parent_checked kind terminal s number count size o c ts us t k h f v m y e =
+  parent_checked kind _ s number count size o c ts us t k h f v m y e =
       let n : Node = node kind number count 0 size o in
       node_checked n ts us t c (ap (λ (x : Terminal). formed_as (length script) keys (shape_of segwit x) n ts) k ∙ ap (λ (x : Option Shape). formed_as (length script) keys x n ts) h ∙ f)
       (ap (λ (x : Terminal). value_refusal_of segwit script keys x n) k ∙ v) m y (holds kind number count 0 size o c e)
