@@ -9,7 +9,7 @@ ghost use Rattle.base_input.specs.Tests.{is_b, is_k, is_v, is_w, equal_bkv, is_z
 ghost use Rattle.base_input.specs.Inputs.{and_input, count_only, or_else_input, or_input, either_input, and_or_input, is_subtype_input};
 
 // Where a fragment can go.
-#[derive(Clone, Copy)]
+#[derive(Clone, Copy, Debug, PartialEq, Eq)]
 pub enum Base {
     // Takes its inputs from the top of the stack; leaves nonzero if satisfied, else 0.
     B,
@@ -22,7 +22,7 @@ pub enum Base {
 }
 
 // How many stack items a fragment takes, and what is known of the top one.
-#[derive(Clone, Copy)]
+#[derive(Clone, Copy, Debug, PartialEq, Eq)]
 pub enum Input {
     Zero,
     One,
@@ -66,63 +66,40 @@ impl Base {
     }
 
     // The base of a number that `number` gave; any other is read as W.
+    #[tactic(auto, unfolding(crate::specs::Numbers::base_of))]
     pub fn of_number(n: u32) -> Base
         ensures { result ≡ base_of n }
     {
-        if n == 1 {
-            return Base::B;
+        match n {
+            1 => Base::B,
+            2 => Base::K,
+            3 => Base::V,
+            _ => Base::W,
         }
-        if n == 2 {
-            return Base::K;
-        }
-        if n == 3 {
-            return Base::V;
-        }
-        Base::W
     }
 
     pub fn is_b(self) -> bool
         ensures { result ≡ is_b self }
     {
-        match self {
-            Base::B => true,
-            Base::K => false,
-            Base::V => false,
-            Base::W => false,
-        }
+        matches!(self, Base::B)
     }
 
     pub fn is_k(self) -> bool
         ensures { result ≡ is_k self }
     {
-        match self {
-            Base::B => false,
-            Base::K => true,
-            Base::V => false,
-            Base::W => false,
-        }
+        matches!(self, Base::K)
     }
 
     pub fn is_v(self) -> bool
         ensures { result ≡ is_v self }
     {
-        match self {
-            Base::B => false,
-            Base::K => false,
-            Base::V => true,
-            Base::W => false,
-        }
+        matches!(self, Base::V)
     }
 
     pub fn is_w(self) -> bool
         ensures { result ≡ is_w self }
     {
-        match self {
-            Base::B => false,
-            Base::K => false,
-            Base::V => false,
-            Base::W => true,
-        }
+        matches!(self, Base::W)
     }
 
     // A threshold's first child is a B, each other a W.
@@ -163,58 +140,35 @@ impl Input {
     }
 
     // The input of a number that `number` gave; any other is read as AnyNonZero.
+    #[tactic(auto, unfolding(crate::specs::Numbers::input_of))]
     pub fn of_number(n: u32) -> Input
         ensures { result ≡ input_of n }
     {
-        if n == 1 {
-            return Input::Zero;
+        match n {
+            1 => Input::Zero,
+            2 => Input::One,
+            3 => Input::Any,
+            4 => Input::OneNonZero,
+            _ => Input::AnyNonZero,
         }
-        if n == 2 {
-            return Input::One;
-        }
-        if n == 3 {
-            return Input::Any;
-        }
-        if n == 4 {
-            return Input::OneNonZero;
-        }
-        Input::AnyNonZero
     }
 
     pub fn is_zero(self) -> bool
         ensures { result ≡ is_zero self }
     {
-        match self {
-            Input::Zero => true,
-            Input::One => false,
-            Input::Any => false,
-            Input::OneNonZero => false,
-            Input::AnyNonZero => false,
-        }
+        matches!(self, Input::Zero)
     }
 
     pub fn takes_one(self) -> bool
         ensures { result ≡ takes_one self }
     {
-        match self {
-            Input::Zero => false,
-            Input::One => true,
-            Input::Any => false,
-            Input::OneNonZero => true,
-            Input::AnyNonZero => false,
-        }
+        matches!(self, Input::One | Input::OneNonZero)
     }
 
     pub fn top_nonzero(self) -> bool
         ensures { result ≡ top_non_zero self }
     {
-        match self {
-            Input::Zero => false,
-            Input::One => false,
-            Input::Any => false,
-            Input::OneNonZero => true,
-            Input::AnyNonZero => true,
-        }
+        matches!(self, Input::OneNonZero | Input::AnyNonZero)
     }
 
     // The input of and_b and and_v.
@@ -225,18 +179,12 @@ impl Input {
             Input::Zero => right,
             Input::One => match right {
                 Input::Zero => Input::One,
-                Input::One => Input::Any,
-                Input::Any => Input::Any,
-                Input::OneNonZero => Input::Any,
-                Input::AnyNonZero => Input::Any,
+                _ => Input::Any,
             },
             Input::Any => Input::Any,
             Input::OneNonZero => match right {
                 Input::Zero => Input::OneNonZero,
-                Input::One => Input::AnyNonZero,
-                Input::Any => Input::AnyNonZero,
-                Input::OneNonZero => Input::AnyNonZero,
-                Input::AnyNonZero => Input::AnyNonZero,
+                _ => Input::AnyNonZero,
             },
             Input::AnyNonZero => Input::AnyNonZero,
         }
@@ -248,10 +196,8 @@ impl Input {
     {
         match self {
             Input::Zero => Input::Zero,
-            Input::One => Input::One,
-            Input::Any => Input::Any,
-            Input::OneNonZero => Input::One,
-            Input::AnyNonZero => Input::Any,
+            Input::One | Input::OneNonZero => Input::One,
+            Input::Any | Input::AnyNonZero => Input::Any,
         }
     }
 
@@ -261,10 +207,7 @@ impl Input {
     {
         match right {
             Input::Zero => self.count_only(),
-            Input::One => Input::Any,
-            Input::Any => Input::Any,
-            Input::OneNonZero => Input::Any,
-            Input::AnyNonZero => Input::Any,
+            _ => Input::Any,
         }
     }
 
@@ -274,10 +217,7 @@ impl Input {
     {
         match self {
             Input::Zero => right.count_only(),
-            Input::One => self.or_else(right),
-            Input::Any => self.or_else(right),
-            Input::OneNonZero => self.or_else(right),
-            Input::AnyNonZero => self.or_else(right),
+            _ => self.or_else(right),
         }
     }
 
@@ -285,7 +225,7 @@ impl Input {
     pub fn either(self, right: Input) -> Input
         ensures { result ≡ either_input self right }
     {
-        if both(self.is_zero(), right.is_zero()) {
+        if self.is_zero() && right.is_zero() {
             return Input::One;
         }
         Input::Any
@@ -295,27 +235,22 @@ impl Input {
     pub fn and_or(self, second: Input, third: Input) -> Input
         ensures { result ≡ and_or_input self second third }
     {
-        if both(second.is_zero(), third.is_zero()) {
+        if second.is_zero() && third.is_zero() {
             return self.count_only();
         }
-        if both(self.is_zero(), both(second.takes_one(), third.takes_one())) {
+        if self.is_zero() && second.takes_one() && third.takes_one() {
             return Input::One;
         }
         Input::Any
     }
 
     // Whether this input has whatever `other` has.
+    #[tactic(auto, unfolding(crate::specs::Inputs::is_subtype_input))]
     pub fn is_subtype(self, other: Input) -> bool
         ensures { result ≡ is_subtype_input self other }
     {
-        let a = self.number();
-        let b = other.number();
-        if a == b {
-            return true;
-        }
-        if b == 3 {
-            return true;
-        }
-        both(a == 4, !other.is_zero())
+        self == other
+            || other == Input::Any
+            || (self == Input::OneNonZero && other != Input::Zero)
     }
 }

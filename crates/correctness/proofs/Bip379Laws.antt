@@ -17,8 +17,8 @@ use Rattle.correctness.specs.declared.ErrorKind.{ErrorKind}
 use Rattle.correctness.specs.declared.ErrorKind.TheVariants.{ThresholdBase, ThresholdNonUnit, ThresholdDissat}
 use Rattle.correctness.specs.declared.Leaf.{Leaf}
 use Rattle.correctness.specs.declared.Leaf.TheVariants as leaf
-use Rattle.correctness.specs.declared.Typed.{Typed}
-use Rattle.correctness.specs.declared.Typed.TheVariants.{Is}
+use Rattle.correctness.specs.Typed.{Typed}
+use Rattle.std.specs.Prelude.{Ok}
 use Rattle.correctness.specs.Rules.{check, made, is, given, onward, leaf_type, cast_alt, cast_swap, cast_check, cast_dupif, cast_verify, cast_nonzero, cast_zeronotequal, and_b, and_v, or_b, or_d, or_c, or_i, and_or, threshold_child, threshold_from, threshold}
 use Rattle.correctness.specs.Sanity.{Sound}
 use Rattle.correctness.specs.Bip379.{Letters, row, requiring, leaf_row, andor_row, and_v_row, and_b_row, or_b_row, or_c_row, or_d_row, or_i_row, all_z, all_z_but_one_o, all_wdu, threshold_row, a_row, s_row, c_row, d_row, v_row, j_row, n_row, letters, letters_given}
@@ -30,19 +30,19 @@ answered t = letters_given (given t)
 
 -- Checks are the column "requires"
 
-once : (a : Bool) (e : ErrorKind) (t : Correctness) → answered (check a e (Is t)) ≡ requiring a (letters t)
+once : (a : Bool) (e : ErrorKind) (t : Correctness) → answered (check a e (Ok t)) ≡ requiring a (letters t)
 once true e t = refl
 once false e t = refl
 
-twice : (a b : Bool) (e f : ErrorKind) (t : Correctness) → answered (check a e (check b f (Is t))) ≡ requiring (a && b) (letters t)
+twice : (a b : Bool) (e f : ErrorKind) (t : Correctness) → answered (check a e (check b f (Ok t))) ≡ requiring (a && b) (letters t)
 twice true b e f t = once b f t
 twice false b e f t = refl
 
 -- the same with the tests grouped as the table has them, and the type in the table's letters
-once_row : (a : Bool) (e : ErrorKind) (t : Correctness) {l : Letters} → letters t ≡ l → answered (check a e (Is t)) ≡ requiring a l
+once_row : (a : Bool) (e : ErrorKind) (t : Correctness) {l : Letters} → letters t ≡ l → answered (check a e (Ok t)) ≡ requiring a l
 once_row a e t h = once a e t ∙ ap (requiring a) h
 
-thrice : (a b c : Bool) (e f g : ErrorKind) (t : Correctness) → answered (check a e (check b f (check c g (Is t)))) ≡ requiring (a && (b && c)) (letters t)
+thrice : (a b c : Bool) (e f g : ErrorKind) (t : Correctness) → answered (check a e (check b f (check c g (Ok t)))) ≡ requiring (a && (b && c)) (letters t)
 thrice true b c e f g t = twice b c f g t
 thrice false b c e f g t = refl
 
@@ -50,7 +50,7 @@ thrice false b c e f g t = refl
 lettered : (b : Base) (i : Input) (d u : Bool) {l : InputLetters} → input_letters i ≡ l → letters (made b i d u) ≡ row b l.z l.o l.n d u
 lettered b i d u e = ap (λ (l : InputLetters). row b l.z l.o l.n d u) e
 
-thrice_row : (a b c q : Bool) (e f g : ErrorKind) (t : Correctness) {l : Letters} → (a && (b && c)) ≡ q → letters t ≡ l → answered (check a e (check b f (check c g (Is t)))) ≡ requiring q l
+thrice_row : (a b c q : Bool) (e f g : ErrorKind) (t : Correctness) {l : Letters} → (a && (b && c)) ≡ q → letters t ≡ l → answered (check a e (check b f (check c g (Ok t)))) ≡ requiring q l
 thrice_row a b c q e f g t {l} h k = thrice a b c e f g t ∙ ap (λ (x : Bool). requiring x (letters t)) h ∙ ap (requiring q) k
 
 -- The table groups the tests otherwise than the rules do
@@ -237,7 +237,7 @@ none_more j h = rw (h, and-true (is_zero j), and-true (takes_one j), and-false (
 
 -- a child that passes its three tests hands on; one that fails ends
 child : (a b c : Bool) (e f g : ErrorKind) (t : Correctness) (rule : Correctness → Typed) (r : Bool) (l : Letters) → answered (rule t) ≡ requiring r l
-    → answered (onward (check a e (check b f (check c g (Is t)))) rule) ≡ requiring ((a && (c && b)) && r) l
+    → answered (onward (check a e (check b f (check c g (Ok t)))) rule) ≡ requiring ((a && (c && b)) && r) l
 child true true true e f g t rule r l h = h
 child true true false e f g t rule r l h = refl
 child true false true e f g t rule r l h = refl
@@ -254,7 +254,7 @@ unfolding threshold_child so_far
 others i j [] h = ap some (none_more j h)
 others i j (c ∷ cs) h =
     let k = or_input j c.input in
-    ap (λ (t : Bool). answered (onward (check t ThresholdBase (check c.unit ThresholdNonUnit (check c.dissatisfiable ThresholdDissat (Is (so_far k))))) (λ next. threshold_from (suc i + 1) next cs))) (later i c.base)
+    ap (λ (t : Bool). answered (onward (check t ThresholdBase (check c.unit ThresholdNonUnit (check c.dissatisfiable ThresholdDissat (Ok (so_far k))))) (λ next. threshold_from (suc i + 1) next cs))) (later i c.base)
     ∙ child (is_w c.base) c.unit c.dissatisfiable _ _ _ (so_far k) (λ next. threshold_from (suc i + 1) next cs) (all_wdu (map letters cs)) _
     (ap (λ (n : ℕ). answered (threshold_from n (so_far k) cs)) (add-one (suc i))
     ∙ others (suc i) k cs (ap (λ (l : InputLetters). l.n) (or_letters j c.input))

@@ -4,11 +4,11 @@ use mathlib.Core.Bool.{Bool, true, false}
 use Rattle.base_input.specs.declared.Base.{Base}
 use Rattle.base_input.specs.declared.Input.{Input}
 use Rattle.correctness.specs.declared.ErrorKind.{ErrorKind}
-use Rattle.correctness.specs.declared.Typed.{Typed}
-use Rattle.correctness.specs.declared.Typed.TheVariants.{Not}
+use Rattle.correctness.specs.Typed.{Typed}
+use Rattle.std.specs.Prelude.{Err}
 use Rattle.correctness.specs.Rules.{check, is}
 
-pub refuses : {b : Bool} (e : ErrorKind) (t : Typed) → b ≡ false → Not e ≡ check b e t
+pub refuses : {b : Bool} (e : ErrorKind) (t : Typed) → b ≡ false → Err e ≡ check b e t
 refuses e t h = ap (λ (x : Bool). check x e t) (sym h)
 
 pub passes : {b : Bool} (e : ErrorKind) {x : Typed} (t : Typed) → b ≡ true → x ≡ t → x ≡ check b e t

@@ -15,8 +15,8 @@ use Rattle.correctness.specs.declared.Correctness.{Correctness}
 use Rattle.correctness.specs.declared.ErrorKind.{ErrorKind}
 use Rattle.correctness.specs.declared.Leaf.{Leaf}
 use Rattle.correctness.specs.declared.Leaf.TheVariants as leaf
-use Rattle.correctness.specs.declared.Typed.{Typed}
-use Rattle.correctness.specs.declared.Typed.TheVariants.{Is, Not}
+use Rattle.correctness.specs.Typed.{Typed}
+use Rattle.std.specs.Prelude.{Ok, Err}
 use Rattle.correctness.specs.Rules.{check, made, is, onward, leaf_type, cast_alt, cast_swap, cast_check, cast_dupif, cast_verify, cast_nonzero, cast_zeronotequal, cast_true, cast_or_i_false, and_b, and_v, or_b, or_d, or_c, or_i, and_or, no_children, threshold_child, threshold_from, threshold}
 use Rattle.correctness.specs.Sanity.{sane, Sound, SoundAnswer}
 
@@ -183,8 +183,8 @@ threshold_child_sound i earlier child =
     always (pick (eqb i 0) (is_b child.base) (is_w child.base)) _ _ (always child.unit _ _ (always child.dissatisfiable _ _ refl))
 
 next : (t : Typed) (rule : Correctness → Typed) → SoundAnswer t → ((n : Correctness) → Sound n → SoundAnswer (rule n)) → SoundAnswer (onward t rule)
-next (Is n) rule h k = k n h
-next (Not e) rule h k = tt
+next (Ok n) rule h k = k n h
+next (Err e) rule h k = tt
 
 from_sound : (i : ℕ) (earlier : Correctness) (cs : List Correctness) → Sound earlier → SoundAnswer (threshold_from i earlier cs)
 from_sound i earlier [] s = s

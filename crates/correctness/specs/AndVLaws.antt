@@ -14,12 +14,12 @@ use Rattle.base_input.specs.InputLaws.{and_associates}
 use Rattle.correctness.specs.declared.Correctness.{Correctness}
 use Rattle.correctness.specs.declared.ErrorKind.{ErrorKind}
 use Rattle.correctness.specs.declared.ErrorKind.TheVariants.{ChildBase1}
-use Rattle.correctness.specs.declared.Typed.{Typed}
-use Rattle.correctness.specs.declared.Typed.TheVariants.{Is, Not}
+use Rattle.correctness.specs.Typed.{Typed}
+use Rattle.std.specs.Prelude.{Ok, Err}
 use Rattle.correctness.specs.Rules.{check, made, is, given, onward, and_v, and_b, cast_check, cast_verify, cast_zeronotequal}
 
 -- a check whose sequel always refuses gives no type
-refused_after : (b : Bool) (e f : ErrorKind) (t : Correctness) → none ≡ given (onward (check b e (Is t)) (λ y. Not f))
+refused_after : (b : Bool) (e f : ErrorKind) (t : Correctness) → none ≡ given (onward (check b e (Ok t)) (λ y. Err f))
 refused_after true e f t = refl
 refused_after false e f t = refl
 
@@ -126,28 +126,28 @@ and_b_commutes a b c =
 
 -- Never dissatisfiable
 
-never : (e : ErrorKind) (t : Correctness) → Not e ≡ Is t → ⊥
+never : (e : ErrorKind) (t : Correctness) → Err e ≡ Ok t → ⊥
 never e t h = let z : ◌≡◌ {A = ℕ} 0 1 = cc in omega arith
 
 -- a check that gave a type was passed
-pub passed : (b : Bool) (e : ErrorKind) (s t : Correctness) → check b e (Is s) ≡ Is t → (b ≡ true) × (s ≡ t)
+pub passed : (b : Bool) (e : ErrorKind) (s t : Correctness) → check b e (Ok s) ≡ Ok t → (b ≡ true) × (s ≡ t)
 passed true e s t h = (refl, cc)
 passed false e s t h = absurd (never e t h)
 
-pub and_v_not_dissatisfiable : (a b t : Correctness) → and_v a b ≡ Is t → t.dissatisfiable ≡ false
+pub and_v_not_dissatisfiable : (a b t : Correctness) → and_v a b ≡ Ok t → t.dissatisfiable ≡ false
 unfolding and_v
 and_v_not_dissatisfiable a b t h =
     let e = (passed (is_v a.base && not (is_w b.base)) _ (made b.base (and_input a.input b.input) false b.unit) t h).1 in
     sym (ap (λ (c : Correctness). c.dissatisfiable) e)
 
 -- c:, n: and v: over a child that isn't dissatisfiable
-pub keeping_not_dissatisfiable : (cast : Correctness → Typed) (keeps : Keeping cast) (c t : Correctness) → cast c ≡ Is t → c.dissatisfiable ≡ false → t.dissatisfiable ≡ false
+pub keeping_not_dissatisfiable : (cast : Correctness → Typed) (keeps : Keeping cast) (c t : Correctness) → cast c ≡ Ok t → c.dissatisfiable ≡ false → t.dissatisfiable ≡ false
 keeping_not_dissatisfiable cast keeps c t h lacks =
     let e = (passed (keeps.test c.base) _ (made keeps.result c.input (keeps.dissat c.dissatisfiable) keeps.leaves) t (sym (keeps.rule c) ∙ h)).1 in
     sym (ap (λ (x : Correctness). x.dissatisfiable) e) ∙ ap keeps.dissat lacks ∙ keeps.stays
 
 -- and_b with such a left child
-pub and_b_not_dissatisfiable : (a b t : Correctness) → and_b a b ≡ Is t → a.dissatisfiable ≡ false → t.dissatisfiable ≡ false
+pub and_b_not_dissatisfiable : (a b t : Correctness) → and_b a b ≡ Ok t → a.dissatisfiable ≡ false → t.dissatisfiable ≡ false
 unfolding and_b
 and_b_not_dissatisfiable a b t h lacks =
     let e = (passed (is_b a.base && is_w b.base) _ (made B (and_input a.input b.input) (a.dissatisfiable && b.dissatisfiable) true) t h).1 in

@@ -2,8 +2,8 @@
 use Rattle.std.specs.Prelude.{ℕ}
 use Rattle.correctness.specs.declared.ErrorKind.{ErrorKind}
 use Rattle.correctness.specs.declared.ErrorKind.TheVariants.{ChildBase1, ChildBase2, SwapNonOne, NonZeroDupIf, NonZeroZero, LeftNotDissatisfiable, RightNotDissatisfiable, LeftNotUnit, ThresholdBase, ThresholdNonUnit, ThresholdDissat, ChildBase3}
-use Rattle.correctness.specs.declared.Typed.{Typed}
-use Rattle.correctness.specs.declared.Typed.TheVariants.{Is, Not}
+use Rattle.correctness.specs.Typed.{Typed}
+use Rattle.std.specs.Prelude.{Ok, Err}
 
 -- "Reasons of 14"
 abbrev pub reason_of : ErrorKind → ℕ
@@ -22,10 +22,10 @@ reason_of ChildBase3 = 12
 
 -- what the desk says of a rule's answer: its number, 14 where the rule refuses
 abbrev pub number_of : Typed → ℕ
-number_of (Is c) = 0
-number_of (Not e) = 14
+number_of (Ok c) = 0
+number_of (Err e) = 14
 
 -- and its reason
 abbrev pub reason : Typed → ℕ
-reason (Is c) = 0
-reason (Not e) = reason_of e
+reason (Ok c) = 0
+reason (Err e) = reason_of e

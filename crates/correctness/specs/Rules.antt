@@ -9,8 +9,8 @@ use Rattle.base_input.specs.declared.Input.TheVariants.{Zero, One, Any, OneNonZe
 use Rattle.correctness.specs.declared.Correctness.{Correctness}
 use Rattle.correctness.specs.declared.ErrorKind.{ErrorKind}
 use Rattle.correctness.specs.declared.ErrorKind.TheVariants.{ChildBase1, ChildBase2, SwapNonOne, NonZeroDupIf, NonZeroZero, LeftNotDissatisfiable, RightNotDissatisfiable, LeftNotUnit, ThresholdBase, ThresholdNonUnit, ThresholdDissat, ChildBase3}
-use Rattle.correctness.specs.declared.Typed.{Typed}
-use Rattle.correctness.specs.declared.Typed.TheVariants.{Is, Not}
+use Rattle.correctness.specs.Typed.{Typed}
+use Rattle.std.specs.Prelude.{Ok, Err}
 use Rattle.correctness.specs.declared.Leaf.{Leaf}
 use Rattle.correctness.specs.declared.Leaf.TheVariants as leaf
 use Rattle.base_input.specs.Numbers.{base_number}
@@ -22,24 +22,24 @@ use Rattle.base_input.specs.Tests.{is_b, is_k, is_v, is_w, equal_bkv, is_zero, t
 -- a check that fails refuses with its reason
 abbrev pub check : Bool → ErrorKind → Typed → Typed
 check true e t = t
-check false e t = Not e
+check false e t = Err e
 
 -- a type from its parts, in 01's order base-input-d-u
 abbrev pub made : Base → Input → Bool → Bool → Correctness
 made b i d u = record { base = b; input = i; dissatisfiable = d; unit = u }
 
 abbrev pub is : Base → Input → Bool → Bool → Typed
-is b i d u = Is (made b i d u)
+is b i d u = Ok (made b i d u)
 
 -- the type, where there is one
 abbrev pub given : Typed → Option Correctness
-given (Is c) = some c
-given (Not e) = none
+given (Ok c) = some c
+given (Err e) = none
 
 -- what a further rule makes of an answer: a refusal stays as it is
 abbrev pub onward : Typed → (Correctness → Typed) → Typed
-onward (Is c) rule = rule c
-onward (Not e) rule = Not e
+onward (Ok c) rule = rule c
+onward (Err e) rule = Err e
 
 -- "Leaf types are constants of the correctness type, as base-input-d-u"
 
@@ -149,7 +149,7 @@ threshold_child i earlier c =
 
 -- the children from number i on
 abbrev pub threshold_from : ℕ → Correctness → List Correctness → Typed
-threshold_from i earlier [] = Is earlier
+threshold_from i earlier [] = Ok earlier
 threshold_from i earlier (c ∷ cs) = onward (threshold_child i earlier c) (λ next. threshold_from (i + 1) next cs)
 
 unfoldable pub threshold : List Correctness → Typed

@@ -4,8 +4,8 @@ use Rattle.base_input.specs.declared.Base.{Base}
 use Rattle.base_input.specs.declared.Base.TheVariants.{B, K, «V», W}
 use Rattle.base_input.specs.declared.Input.{Input}
 use Rattle.correctness.specs.declared.Correctness.{Correctness}
-use Rattle.correctness.specs.declared.Typed.{Typed}
-use Rattle.correctness.specs.declared.Typed.TheVariants.{Is, Not}
+use Rattle.correctness.specs.Typed.{Typed}
+use Rattle.std.specs.Prelude.{Ok, Err}
 use Rattle.base_input.specs.Tests.{is_zero, top_non_zero}
 
 -- K is unit and takes at least one item; V is neither unit nor dissatisfiable; W is never OneNonZero or AnyNonZero
@@ -20,5 +20,5 @@ Sound c = sane c.base c.input c.dissatisfiable c.unit ≡ true
 
 -- a refusal has no type, so none that could be unsound
 abbrev pub SoundAnswer : Typed → Type 0
-SoundAnswer (Is c) = Sound c
-SoundAnswer (Not e) = Unit {0}
+SoundAnswer (Ok c) = Sound c
+SoundAnswer (Err e) = Unit {0}

@@ -7,9 +7,8 @@ ghost use Rattle.correctness.specs.Reasons.{reason_of};
 ghost use Rattle.correctness.specs.Rules.{leaf_type, no_children, cast_alt, cast_swap, cast_check, cast_dupif, cast_verify, cast_nonzero, cast_zeronotequal, cast_true, cast_or_i_false, and_b, and_v, or_b, or_d, or_c, or_i, and_or, threshold_child, is_subtype};
 
 pub use base_input::{Base, Input};
-use base_input::{both, either};
 
-#[derive(Clone, Copy)]
+#[derive(Clone, Copy, Debug, PartialEq, Eq)]
 pub struct Correctness {
     pub base: Base,
     pub input: Input,
@@ -20,7 +19,7 @@ pub struct Correctness {
 }
 
 // Why a rule refuses. The crate's names and order.
-#[derive(Clone, Copy)]
+#[derive(Clone, Copy, Debug, PartialEq, Eq)]
 pub enum ErrorKind {
     NonZeroDupIf,
     LeftNotDissatisfiable,
@@ -36,15 +35,8 @@ pub enum ErrorKind {
     ThresholdNonUnit,
 }
 
-// What a rule answers: the type, or why there is none.
-#[derive(Clone, Copy)]
-pub enum Typed {
-    Is(Correctness),
-    Not(ErrorKind),
-}
-
 // The leaves, by what type they have: after and older are Time, the four hashes Hash.
-#[derive(Clone, Copy)]
+#[derive(Clone, Copy, Debug, PartialEq, Eq)]
 pub enum Leaf {
     True,
     False,
@@ -166,86 +158,72 @@ impl Correctness {
     }
 
     // Whether this type has whatever `other` has.
+    #[tactic(auto, unfolding(crate::specs::Rules::is_subtype))]
     pub fn is_subtype(self, other: Correctness) -> bool
         ensures { result ≡ is_subtype self other }
     {
-        let base = self.base;
-        let other_base = other.base;
-        let input = self.input;
-        let other_input = other.input;
-        let properties = both(
-            either(self.dissatisfiable, !other.dissatisfiable),
-            either(self.unit, !other.unit),
-        );
-        let inputs = input.is_subtype(other_input);
-        both(
-            base.number() == other_base.number(),
-            both(inputs, properties),
-        )
+        self.base == other.base
+            && self.input.is_subtype(other.input)
+            && (self.dissatisfiable || !other.dissatisfiable)
+            && (self.unit || !other.unit)
     }
 
-    pub fn cast_alt(self) -> Typed
+    #[tactic(auto, unfolding(crate::specs::Rules::cast_alt))]
+    pub fn cast_alt(self) -> Result<Correctness, ErrorKind>
         ensures { result ≡ cast_alt self }
     {
-        let base = self.base;
-        if !base.is_b() {
-            return Typed::Not(ErrorKind::ChildBase1);
+        if !self.base.is_b() {
+            return Err(ErrorKind::ChildBase1);
         }
-        Typed::Is(Correctness {
+        Ok(Correctness {
             base: Base::W,
             input: Input::Any,
-            dissatisfiable: self.dissatisfiable,
-            unit: self.unit,
+            ..self
         })
     }
 
-    pub fn cast_swap(self) -> Typed
+    #[tactic(auto, unfolding(crate::specs::Rules::cast_swap))]
+    pub fn cast_swap(self) -> Result<Correctness, ErrorKind>
         ensures { result ≡ cast_swap self }
     {
-        let base = self.base;
-        let input = self.input;
-        if !base.is_b() {
-            return Typed::Not(ErrorKind::ChildBase1);
+        if !self.base.is_b() {
+            return Err(ErrorKind::ChildBase1);
         }
-        if !input.takes_one() {
-            return Typed::Not(ErrorKind::SwapNonOne);
+        if !self.input.takes_one() {
+            return Err(ErrorKind::SwapNonOne);
         }
-        Typed::Is(Correctness {
+        Ok(Correctness {
             base: Base::W,
             input: Input::Any,
-            dissatisfiable: self.dissatisfiable,
-            unit: self.unit,
+            ..self
         })
     }
 
-    pub fn cast_check(self) -> Typed
+    #[tactic(auto, unfolding(crate::specs::Rules::cast_check))]
+    pub fn cast_check(self) -> Result<Correctness, ErrorKind>
         ensures { result ≡ cast_check self }
     {
-        let base = self.base;
-        let input = self.input;
-        if !base.is_k() {
-            return Typed::Not(ErrorKind::ChildBase1);
+        if !self.base.is_k() {
+            return Err(ErrorKind::ChildBase1);
         }
-        Typed::Is(Correctness {
+        Ok(Correctness {
             base: Base::B,
-            input,
-            dissatisfiable: self.dissatisfiable,
             unit: true,
+            ..self
         })
     }
 
-    pub fn cast_dupif(self) -> Typed
+    #[tactic(auto, unfolding(crate::specs::Rules::cast_dupif))]
+    pub fn cast_dupif(self) -> Result<Correctness, ErrorKind>
         ensures { result ≡ cast_dupif self }
     {
-        let base = self.base;
-        let input = self.input;
-        if !base.is_v() {
-            return Typed::Not(ErrorKind::ChildBase1);
+        if !self.base.is_v() {
+            return Err(ErrorKind::ChildBase1);
         }
-        if !input.is_zero() {
-            return Typed::Not(ErrorKind::NonZeroDupIf);
+        if !self.input.is_zero() {
+            return Err(ErrorKind::NonZeroDupIf);
         }
-        Typed::Is(Correctness {
+        Ok(Correctness {
             base: Base::B,
             input: Input::OneNonZero,
             dissatisfiable: true,
@@ -253,274 +231,229 @@ impl Correctness {
         })
     }
 
-    pub fn cast_verify(self) -> Typed
+    #[tactic(auto, unfolding(crate::specs::Rules::cast_verify))]
+    pub fn cast_verify(self) -> Result<Correctness, ErrorKind>
         ensures { result ≡ cast_verify self }
     {
-        let base = self.base;
-        let input = self.input;
-        if !base.is_b() {
-            return Typed::Not(ErrorKind::ChildBase1);
+        if !self.base.is_b() {
+            return Err(ErrorKind::ChildBase1);
         }
-        Typed::Is(Correctness {
+        Ok(Correctness {
             base: Base::V,
-            input,
+            input: self.input,
             dissatisfiable: false,
             unit: false,
         })
     }
 
-    pub fn cast_nonzero(self) -> Typed
+    #[tactic(auto, unfolding(crate::specs::Rules::cast_nonzero))]
+    pub fn cast_nonzero(self) -> Result<Correctness, ErrorKind>
         ensures { result ≡ cast_nonzero self }
     {
-        let base = self.base;
-        let input = self.input;
-        if !input.top_nonzero() {
-            return Typed::Not(ErrorKind::NonZeroZero);
+        if !self.input.top_nonzero() {
+            return Err(ErrorKind::NonZeroZero);
         }
-        if !base.is_b() {
-            return Typed::Not(ErrorKind::ChildBase1);
+        if !self.base.is_b() {
+            return Err(ErrorKind::ChildBase1);
         }
-        Typed::Is(Correctness {
-            base: Base::B,
-            input,
+        Ok(Correctness {
             dissatisfiable: true,
-            unit: self.unit,
+            ..self
         })
     }
 
-    pub fn cast_zeronotequal(self) -> Typed
+    #[tactic(auto, unfolding(crate::specs::Rules::cast_zeronotequal))]
+    pub fn cast_zeronotequal(self) -> Result<Correctness, ErrorKind>
         ensures { result ≡ cast_zeronotequal self }
     {
-        let base = self.base;
-        let input = self.input;
-        if !base.is_b() {
-            return Typed::Not(ErrorKind::ChildBase1);
+        if !self.base.is_b() {
+            return Err(ErrorKind::ChildBase1);
         }
-        Typed::Is(Correctness {
-            base: Base::B,
-            input,
-            dissatisfiable: self.dissatisfiable,
-            unit: true,
-        })
+        Ok(Correctness { unit: true, ..self })
     }
 
-    pub fn cast_true(self) -> Typed
+    #[tactic(auto, unfolding(crate::specs::Rules::cast_true))]
+    pub fn cast_true(self) -> Result<Correctness, ErrorKind>
         ensures { result ≡ cast_true self }
     {
-        let base = self.base;
-        let input = self.input;
-        if !base.is_v() {
-            return Typed::Not(ErrorKind::ChildBase1);
+        if !self.base.is_v() {
+            return Err(ErrorKind::ChildBase1);
         }
-        Typed::Is(Correctness {
+        Ok(Correctness {
             base: Base::B,
-            input,
+            input: self.input,
             dissatisfiable: false,
             unit: true,
         })
     }
 
-    pub fn cast_or_i_false(self) -> Typed
+    #[tactic(auto, unfolding(crate::specs::Rules::cast_or_i_false))]
+    pub fn cast_or_i_false(self) -> Result<Correctness, ErrorKind>
         ensures { result ≡ cast_or_i_false self }
     {
-        let base = self.base;
-        let input = self.input;
-        if !base.is_b() {
-            return Typed::Not(ErrorKind::ChildBase1);
+        if !self.base.is_b() {
+            return Err(ErrorKind::ChildBase1);
         }
-        Typed::Is(Correctness {
-            base: Base::B,
-            input: input.either(Input::Zero),
+        Ok(Correctness {
+            input: self.input.either(Input::Zero),
             dissatisfiable: true,
-            unit: self.unit,
+            ..self
         })
     }
 
-    pub fn and_b(left: Correctness, right: Correctness) -> Typed
+    #[tactic(auto, unfolding(crate::specs::Rules::and_b))]
+    pub fn and_b(left: Correctness, right: Correctness) -> Result<Correctness, ErrorKind>
         ensures { result ≡ and_b left right }
     {
-        let a = left.base;
-        let b = right.base;
-        let i = left.input;
-        let j = right.input;
-        if !both(a.is_b(), b.is_w()) {
-            return Typed::Not(ErrorKind::ChildBase2);
+        if !(left.base.is_b() && right.base.is_w()) {
+            return Err(ErrorKind::ChildBase2);
         }
-        let input = i.and(j);
-        let dissatisfiable = both(left.dissatisfiable, right.dissatisfiable);
-        Typed::Is(Correctness {
+        Ok(Correctness {
             base: Base::B,
-            input,
-            dissatisfiable,
+            input: left.input.and(right.input),
+            dissatisfiable: left.dissatisfiable && right.dissatisfiable,
             unit: true,
         })
     }
 
-    pub fn and_v(left: Correctness, right: Correctness) -> Typed
+    #[tactic(auto, unfolding(crate::specs::Rules::and_v))]
+    pub fn and_v(left: Correctness, right: Correctness) -> Result<Correctness, ErrorKind>
         ensures { result ≡ and_v left right }
     {
-        let a = left.base;
-        let b = right.base;
-        let i = left.input;
-        let j = right.input;
-        if !both(a.is_v(), !b.is_w()) {
-            return Typed::Not(ErrorKind::ChildBase2);
+        if !left.base.is_v() || right.base.is_w() {
+            return Err(ErrorKind::ChildBase2);
         }
-        let input = i.and(j);
-        Typed::Is(Correctness {
-            base: b,
-            input,
+        Ok(Correctness {
+            input: left.input.and(right.input),
             dissatisfiable: false,
-            unit: right.unit,
+            ..right
         })
     }
 
-    pub fn or_b(left: Correctness, right: Correctness) -> Typed
+    #[tactic(auto, unfolding(crate::specs::Rules::or_b))]
+    pub fn or_b(left: Correctness, right: Correctness) -> Result<Correctness, ErrorKind>
         ensures { result ≡ or_b left right }
     {
-        let a = left.base;
-        let b = right.base;
-        let i = left.input;
-        let j = right.input;
         if !left.dissatisfiable {
-            return Typed::Not(ErrorKind::LeftNotDissatisfiable);
+            return Err(ErrorKind::LeftNotDissatisfiable);
         }
         if !right.dissatisfiable {
-            return Typed::Not(ErrorKind::RightNotDissatisfiable);
+            return Err(ErrorKind::RightNotDissatisfiable);
         }
-        if !both(a.is_b(), b.is_w()) {
-            return Typed::Not(ErrorKind::ChildBase2);
+        if !(left.base.is_b() && right.base.is_w()) {
+            return Err(ErrorKind::ChildBase2);
         }
-        let input = i.or(j);
-        Typed::Is(Correctness {
+        Ok(Correctness {
             base: Base::B,
-            input,
+            input: left.input.or(right.input),
             dissatisfiable: true,
             unit: true,
         })
     }
 
-    pub fn or_d(left: Correctness, right: Correctness) -> Typed
+    #[tactic(auto, unfolding(crate::specs::Rules::or_d))]
+    pub fn or_d(left: Correctness, right: Correctness) -> Result<Correctness, ErrorKind>
         ensures { result ≡ or_d left right }
     {
-        let a = left.base;
-        let b = right.base;
-        let i = left.input;
-        let j = right.input;
         if !left.dissatisfiable {
-            return Typed::Not(ErrorKind::LeftNotDissatisfiable);
+            return Err(ErrorKind::LeftNotDissatisfiable);
         }
         if !left.unit {
-            return Typed::Not(ErrorKind::LeftNotUnit);
+            return Err(ErrorKind::LeftNotUnit);
         }
-        if !both(a.is_b(), b.is_b()) {
-            return Typed::Not(ErrorKind::ChildBase2);
+        if !(left.base.is_b() && right.base.is_b()) {
+            return Err(ErrorKind::ChildBase2);
         }
-        let input = i.or_else(j);
-        Typed::Is(Correctness {
-            base: Base::B,
-            input,
-            dissatisfiable: right.dissatisfiable,
-            unit: right.unit,
+        Ok(Correctness {
+            input: left.input.or_else(right.input),
+            ..right
         })
     }
 
-    pub fn or_c(left: Correctness, right: Correctness) -> Typed
+    #[tactic(auto, unfolding(crate::specs::Rules::or_c))]
+    pub fn or_c(left: Correctness, right: Correctness) -> Result<Correctness, ErrorKind>
         ensures { result ≡ or_c left right }
     {
-        let a = left.base;
-        let b = right.base;
-        let i = left.input;
-        let j = right.input;
         if !left.dissatisfiable {
-            return Typed::Not(ErrorKind::LeftNotDissatisfiable);
+            return Err(ErrorKind::LeftNotDissatisfiable);
         }
         if !left.unit {
-            return Typed::Not(ErrorKind::LeftNotUnit);
+            return Err(ErrorKind::LeftNotUnit);
         }
-        if !both(a.is_b(), b.is_v()) {
-            return Typed::Not(ErrorKind::ChildBase2);
+        if !(left.base.is_b() && right.base.is_v()) {
+            return Err(ErrorKind::ChildBase2);
         }
-        let input = i.or_else(j);
-        Typed::Is(Correctness {
+        Ok(Correctness {
             base: Base::V,
-            input,
+            input: left.input.or_else(right.input),
             dissatisfiable: false,
             unit: false,
         })
     }
 
-    pub fn or_i(left: Correctness, right: Correctness) -> Typed
+    #[tactic(auto, unfolding(crate::specs::Rules::or_i))]
+    pub fn or_i(left: Correctness, right: Correctness) -> Result<Correctness, ErrorKind>
         ensures { result ≡ or_i left right }
     {
-        let a = left.base;
-        let b = right.base;
-        let i = left.input;
-        let j = right.input;
-        if !a.equal_bkv(b) {
-            return Typed::Not(ErrorKind::ChildBase2);
+        if !left.base.equal_bkv(right.base) {
+            return Err(ErrorKind::ChildBase2);
         }
-        let input = i.either(j);
-        let dissatisfiable = either(left.dissatisfiable, right.dissatisfiable);
-        let unit = both(left.unit, right.unit);
-        Typed::Is(Correctness {
-            base: a,
-            input,
-            dissatisfiable,
-            unit,
+        Ok(Correctness {
+            base: left.base,
+            input: left.input.either(right.input),
+            dissatisfiable: left.dissatisfiable || right.dissatisfiable,
+            unit: left.unit && right.unit,
         })
     }
 
     // and_or's script order is a, c, b.
-    pub fn and_or(a: Correctness, b: Correctness, c: Correctness) -> Typed
+    #[tactic(auto, unfolding(crate::specs::Rules::and_or))]
+    pub fn and_or(
+        a: Correctness,
+        b: Correctness,
+        c: Correctness,
+    ) -> Result<Correctness, ErrorKind>
         ensures { result ≡ and_or a b c }
     {
-        let x = a.base;
-        let y = b.base;
-        let z = c.base;
-        let i = a.input;
-        let j = b.input;
-        let k = c.input;
         if !a.dissatisfiable {
-            return Typed::Not(ErrorKind::LeftNotDissatisfiable);
+            return Err(ErrorKind::LeftNotDissatisfiable);
         }
         if !a.unit {
-            return Typed::Not(ErrorKind::LeftNotUnit);
+            return Err(ErrorKind::LeftNotUnit);
         }
-        if !both(x.is_b(), y.equal_bkv(z)) {
-            return Typed::Not(ErrorKind::ChildBase3);
+        if !(a.base.is_b() && b.base.equal_bkv(c.base)) {
+            return Err(ErrorKind::ChildBase3);
         }
-        let input = i.and_or(j, k);
-        let unit = both(b.unit, c.unit);
-        Typed::Is(Correctness {
-            base: y,
-            input,
+        Ok(Correctness {
+            base: b.base,
+            input: a.input.and_or(b.input, c.input),
             dissatisfiable: c.dissatisfiable,
-            unit,
+            unit: b.unit && c.unit,
         })
     }
 
     // One turn of the crate's `threshold`: child number i, after those whose threshold has the type `earlier`. The crate
     // counts arguments up to "more than one"; the input so far says as much.
-    pub fn threshold_child(i: u32, earlier: Correctness, child: Correctness) -> Typed
+    #[tactic(auto, unfolding(crate::specs::Rules::threshold_child))]
+    pub fn threshold_child(
+        i: u32,
+        earlier: Correctness,
+        child: Correctness,
+    ) -> Result<Correctness, ErrorKind>
         ensures { result ≡ threshold_child i earlier child }
     {
-        let base = child.base;
-        let input = child.input;
-        let taken = earlier.input;
-        if !base.fits_threshold(i) {
-            return Typed::Not(ErrorKind::ThresholdBase);
+        if !child.base.fits_threshold(i) {
+            return Err(ErrorKind::ThresholdBase);
         }
         if !child.unit {
-            return Typed::Not(ErrorKind::ThresholdNonUnit);
+            return Err(ErrorKind::ThresholdNonUnit);
         }
         if !child.dissatisfiable {
-            return Typed::Not(ErrorKind::ThresholdDissat);
+            return Err(ErrorKind::ThresholdDissat);
         }
-        let input = taken.or(input);
-        Typed::Is(Correctness {
+        Ok(Correctness {
             base: Base::B,
-            input,
+            input: earlier.input.or(child.input),
             dissatisfiable: true,
             unit: true,
         })

@@ -9,8 +9,8 @@ use lib.Dec.{eqb}
 use lib.ListN.{length}
 use Rattle.base_input.specs.Tests.{is_b}
 use Rattle.base_input.specs.TestLaws.{only_b}
-use Rattle.correctness.specs.declared.Typed.{Typed}
-use Rattle.correctness.specs.declared.Typed.TheVariants.{Is, Not}
+use Rattle.correctness.specs.Typed.{Typed}
+use Rattle.std.specs.Prelude.{Ok, Err}
 use Rattle.tables.specs.Choose.{pick}
 use Rattle.tables.specs.Tables.{newest}
 use Rattle.standard.specs.Tree.{Tree, Trees, nil, ◌⊳◌}
@@ -62,8 +62,8 @@ module _ (segwit : Bool) (nodes keys material : List ℕ) where
   found_holding t e = by_nodes (check_nodes segwit material keys (nodes_from nodes (node_count nodes) 0) nil) refl e
     where
       by_top : (u : Tree) → standing (node_count nodes) (u ⊳ nil) → odd ≡ 0 → (o : Typed) → type_of segwit u ≡ o → top_checked u o ≡ found t → Holding segwit nodes keys material t
-      by_top u s w (Not r) o f = not_refused _ _ t f
-      by_top u s w (Is c) o f = by (is_b c.base) refl f
+      by_top u s w (Err r) o f = not_refused _ _ t f
+      by_top u s w (Ok c) o f = by (is_b c.base) refl f
         where
           by : (b : Bool) → is_b c.base ≡ b → pick b (found u) (refused 19 0) ≡ found t → Holding segwit nodes keys material t
           by false h g = not_refused _ _ t g

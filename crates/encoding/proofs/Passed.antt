@@ -11,8 +11,8 @@ use lib.Dec.{eqb, leb}
 use lib.ListN.{length}
 use Rattle.base_input.specs.Numbers.{base_number, input_number, bool_number}
 use Rattle.correctness.specs.declared.Correctness.{Correctness}
-use Rattle.correctness.specs.declared.Typed.{Typed}
-use Rattle.correctness.specs.declared.Typed.TheVariants.{Is, Not}
+use Rattle.correctness.specs.Typed.{Typed}
+use Rattle.std.specs.Prelude.{Ok, Err}
 use Rattle.lex.specs.Token.{Data}
 use Rattle.tables.specs.Choose.{pick}
 use Rattle.tables.proofs.BoolLaws.{left_true, right_true}
@@ -125,7 +125,7 @@ pub record Passed (segwit : Bool) (material keys : List ℕ) (n : Node) (ts : Tr
   pub formed : well_formed segwit (length material) keys n ts ≡ true
   pub valued : value_refusal segwit material keys n ≡ 0
   pub makes : add_node segwit material keys n ts ≡ some (t ⊳ us)
-  pub typed : type_of segwit t ≡ Is (held_type n)
+  pub typed : type_of segwit t ≡ Ok (held_type n)
   pub sized : n.size ≡ size t
 
 -- the stored type is the one worked out
@@ -209,13 +209,13 @@ module _ (segwit : Bool) (material keys : List ℕ) where
 
   module _ (n : Node) (ts ds : Trees) (formed : well_formed segwit (length material) keys n ts ≡ true) (valued : value_refusal segwit material keys n ≡ 0) where
     type_passed : (t : Tree) (us : Trees) → add_node segwit material keys n ts ≡ some (t ⊳ us) → (o : Typed) → type_of segwit t ≡ o → type_checked n (t ⊳ us) o ≡ finished ds → Passes n ts ds
-    type_passed t us m (Not e) o f = not_refused _ _ ds f
-    type_passed t us m (Is c) o f = by (holds_type n c) refl f
+    type_passed t us m (Err e) o f = not_refused _ _ ds f
+    type_passed t us m (Ok c) o f = by (holds_type n c) refl f
       where
         by : (b : Bool) → holds_type n c ≡ b → pick b (finished (t ⊳ us)) (refused 14 13) ≡ finished ds → Passes n ts ds
         by false h g = not_refused _ _ ds g
         by true h g =
-            (t, us, sym (finished_same (t ⊳ us) ds g), record { formed = formed; valued = valued; makes = m; typed = o ∙ ap Is (sym (held_type_lem n c h)); sized = makes_right_size n ts us t formed m })
+            (t, us, sym (finished_same (t ⊳ us) ds g), record { formed = formed; valued = valued; makes = m; typed = o ∙ ap Ok (sym (held_type_lem n c h)); sized = makes_right_size n ts us t formed m })
 
     newest_passed : (o : Option Trees) → add_node segwit material keys n ts ≡ o → newest_checked segwit n o ≡ finished ds → Passes n ts ds
     newest_passed none m f = not_refused _ _ ds f

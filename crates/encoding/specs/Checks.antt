@@ -4,8 +4,8 @@ use Rattle.std.proofs.Math.Option.{Option, none, some}
 use Rattle.base_input.specs.Numbers.{base_number, input_number, bool_number}
 use Rattle.base_input.specs.Tests.{is_b}
 use Rattle.correctness.specs.declared.Correctness.{Correctness}
-use Rattle.correctness.specs.declared.Typed.{Typed}
-use Rattle.correctness.specs.declared.Typed.TheVariants.{Is, Not}
+use Rattle.correctness.specs.Typed.{Typed}
+use Rattle.std.specs.Prelude.{Ok, Err}
 use Rattle.correctness.specs.Reasons.{reason_of}
 use Rattle.tables.specs.Choose.{pick}
 use Rattle.standard.specs.Tree.{Tree, Trees, nil, ◌⊳◌}
@@ -30,8 +30,8 @@ holds_type n c =
 
 -- 14: the rule's reason, or 13 if the stored type isn't the one worked out
 abbrev pub type_checked : Node → Trees → Typed → Checked
-type_checked n ts (Is c) = pick (holds_type n c) (finished ts) (refused 14 13)
-type_checked n ts (Not e) = refused 14 (reason_of e)
+type_checked n ts (Ok c) = pick (holds_type n c) (finished ts) (refused 14 13)
+type_checked n ts (Err e) = refused 14 (reason_of e)
 
 -- the newest tree is the node's own
 abbrev pub newest_checked : Bool → Node → Option Trees → Checked
@@ -61,8 +61,8 @@ pub data Found : Type 0 where
 
 -- 19
 abbrev pub top_checked : Tree → Typed → Found
-top_checked t (Is c) = pick (is_b c.base) (found t) (refused 19 0)
-top_checked t (Not e) = refused 14 (reason_of e)
+top_checked t (Ok c) = pick (is_b c.base) (found t) (refused 19 0)
+top_checked t (Err e) = refused 14 (reason_of e)
 
 -- "one root else 21"; numbers behind the last whole node belong to no tree
 abbrev pub root_checked : Bool → ℕ → Checked → Found

@@ -3,8 +3,8 @@ use Rattle.std.specs.Prelude.{◌≡◌, refl, Bool, true, false, List, [], ◌�
 use Rattle.std.proofs.Common.{sym, ap, subst, ◌∙◌, append-nil, zero-add, arith}
 use Rattle.tables.specs.Choose.{pick}
 use Rattle.correctness.specs.declared.Leaf as correctness
-use Rattle.correctness.specs.declared.Typed.{Typed}
-use Rattle.correctness.specs.declared.Typed.TheVariants.{Is, Not}
+use Rattle.correctness.specs.Typed.{Typed}
+use Rattle.std.specs.Prelude.{Ok, Err}
 use Rattle.correctness.specs.Rules.{leaf_type}
 use Rattle.standard.specs.Tree.{Leaf, Wrapper, Combination, Tree, Trees, leaf, wrap, join, and_or, thresh, nil, ◌⊳◌, ◌⊕◌, many, size, sizes, key_counts}
 use Rattle.standard.specs.Allowed.{allowed_leaf, leaf_refusal, thresh_allowed}
@@ -35,7 +35,7 @@ types_over segwit (t ⊳ ts) more h = (h.0, types_over segwit ts more h.1)
 pub leaf_root : (segwit : Bool) (l : Leaf) (before : ℕ) → new_leaf (leaf_kind l) (leaf_number l) (leaf_count l) (leaf_place l before) ≡ root_node segwit (leaf l) before
 unfolding new_leaf
 leaf_root segwit l before =
-    ap (λ (x : correctness.Leaf). node (leaf_kind l) (leaf_number l) (leaf_count l) (leaf_place l before) 1 (Is (leaf_type x))) (leaf_kind_lem l)
+    ap (λ (x : correctness.Leaf). node (leaf_kind l) (leaf_number l) (leaf_count l) (leaf_place l before) 1 (Ok (leaf_type x))) (leaf_kind_lem l)
     ∙ sym (root_node_lem segwit (leaf l) before)
 
 module _ (segwit : Bool) where
@@ -52,9 +52,9 @@ module _ (segwit : Bool) where
     keys_counted = ap length h.keys_are ∙ key_table_length done
 
   -- the newest tree's type
-  pub forest_top : {nodes : List Node} {keys : List ℕ} (t : Tree) (done : Trees) → Forest segwit nodes keys (t ⊳ done) → type_of segwit t ≡ Is (held_type (top_node nodes))
+  pub forest_top : {nodes : List Node} {keys : List ℕ} (t : Tree) (done : Trees) → Forest segwit nodes keys (t ⊳ done) → type_of segwit t ≡ Ok (held_type (top_node nodes))
   forest_top t done h =
-      h.types.0.1 ∙ ap Is (sym (ap (λ (ns : List Node). held_type (top_node ns)) h.nodes_are ∙ top_type_lem segwit 0 t done h.types.0.1))
+      h.types.0.1 ∙ ap Ok (sym (ap (λ (ns : List Node). held_type (top_node ns)) h.nodes_are ∙ top_type_lem segwit 0 t done h.types.0.1))
 
   module _ {nodes : List Node} {keys : List ℕ} (t : Tree) (done : Trees) (h : Forest segwit nodes keys (◌⊕◌ (children t) done)) where
     -- a new tree takes its children's place
@@ -71,17 +71,17 @@ module _ (segwit : Bool) where
 
     module _ (rule-alone : judge segwit t ≡ by_rule (type_of segwit t)) (no_place : place_of t (key_counts done) ≡ 0) (no_keys : own_keys t ≡ []) where
       rule_agrees : (o : Typed) → type_of segwit t ≡ o → Agrees segwit nodes keys done t (making o (parent (kind_of t) (number_of t) (count_of t) (size t)))
-      rule_agrees (Is c) e =
-          let root : root_node segwit t (key_counts done) ≡ node (kind_of t) (number_of t) (count_of t) 0 (size t) (Is c) =
+      rule_agrees (Ok c) e =
+          let root : root_node segwit t (key_counts done) ≡ node (kind_of t) (number_of t) (count_of t) 0 (size t) (Ok c) =
           root_node_lem segwit t (key_counts done)
           ∙ ap (λ (p : ℕ). node (kind_of t) (number_of t) (count_of t) p (size t) (type_of segwit t)) no_place
           ∙ ap (node (kind_of t) (number_of t) (count_of t) 0 (size t)) e in
           let all_keys : keys ++ own_keys t ≡ keys = ap (λ (ks : List ℕ). keys ++ ks) no_keys ∙ append-nil keys in (
             rule-alone ∙ ap by_rule e,
-            subst (λ (ks : List ℕ). Forest segwit (node (kind_of t) (number_of t) (count_of t) 0 (size t) (Is c) ∷ nodes) ks (t ⊳ done)) all_keys
+            subst (λ (ks : List ℕ). Forest segwit (node (kind_of t) (number_of t) (count_of t) 0 (size t) (Ok c) ∷ nodes) ks (t ⊳ done)) all_keys
                 (subst (λ (n : Node). Forest segwit (n ∷ nodes) (keys ++ own_keys t) (t ⊳ done)) root (forest_grows (c, e))),
           )
-      rule_agrees (Not r) e = rule-alone ∙ ap by_rule e
+      rule_agrees (Err r) e = rule-alone ∙ ap by_rule e
 
       -- what a reduction makes agrees, if it is the tree's rule
       pub agrees : {made : Making} → made ≡ making (type_of segwit t) (parent (kind_of t) (number_of t) (count_of t) (size t)) → Agrees segwit nodes keys done t made

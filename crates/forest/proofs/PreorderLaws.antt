@@ -7,8 +7,8 @@ use Rattle.base_input.specs.declared.Input.{Input}
 use Rattle.base_input.specs.Numbers.{base_number, input_number, bool_number, base_of, input_of, bool_of}
 use Rattle.base_input.specs.NumberLaws.{base_of_its_number, input_of_its_number, bool_of_its_number}
 use Rattle.correctness.specs.declared.Correctness.{Correctness}
-use Rattle.correctness.specs.declared.Typed.{Typed}
-use Rattle.correctness.specs.declared.Typed.TheVariants.{Is, Not}
+use Rattle.correctness.specs.Typed.{Typed}
+use Rattle.std.specs.Prelude.{Ok, Err}
 use Rattle.correctness.specs.Rules.{made}
 use Rattle.standard.specs.Tree.{True, False, PkK, RawPkH, After, Older, HashLock, Multi, MultiA, Tree, Trees, leaf, wrap, join, and_or, thresh, nil, ◌⊳◌, ◌⊕◌, size, sizes, key_count, key_counts}
 use Rattle.standard.proofs.TreeLaws.{keys_append}
@@ -36,8 +36,8 @@ root_node_lem segwit (thresh k x xs) before = refl
 
 -- nine numbers hold the size and the type
 node_size : (kind number count place size : ℕ) (o : Typed) → (node kind number count place size o).size ≡ size
-node_size kind number count place size (Is c) = refl
-node_size kind number count place size (Not e) = refl
+node_size kind number count place size (Ok c) = refl
+node_size kind number count place size (Err e) = refl
 
 pub held_back : (c : Correctness) → made (base_of (base_number c.base)) (input_of (input_number c.input)) (bool_of (bool_number c.dissatisfiable)) (bool_of (bool_number c.unit)) ≡ c
 held_back c =
@@ -50,7 +50,7 @@ pub root_size : (segwit : Bool) (t : Tree) (before : ℕ) → (root_node segwit 
 root_size segwit t before =
     ap (λ (n : Node). n.size) (root_node_lem segwit t before) ∙ node_size (kind_of t) (number_of t) (count_of t) (place_of t before) (size t) (type_of segwit t)
 
-pub root_type : (segwit : Bool) (t : Tree) (before : ℕ) {c : Correctness} → type_of segwit t ≡ Is c → held_type (root_node segwit t before) ≡ c
+pub root_type : (segwit : Bool) (t : Tree) (before : ℕ) {c : Correctness} → type_of segwit t ≡ Ok c → held_type (root_node segwit t before) ≡ c
 root_type segwit t before {c} e =
     ap held_type (root_node_lem segwit t before)
     ∙ ap (λ (o : Typed). held_type (node (kind_of t) (number_of t) (count_of t) (place_of t before) (size t) o)) e
@@ -128,7 +128,7 @@ module _ (segwit : Bool) where
     pub top_size : (top_node (preorders segwit before (t ⊳ done))).size ≡ size t
     top_size = ap (λ (n : Node). n.size) top_root ∙ root_size segwit t (before + key_counts done)
 
-    pub top_type_lem : {c : Correctness} → type_of segwit t ≡ Is c → held_type (top_node (preorders segwit before (t ⊳ done))) ≡ c
+    pub top_type_lem : {c : Correctness} → type_of segwit t ≡ Ok c → held_type (top_node (preorders segwit before (t ⊳ done))) ≡ c
     top_type_lem e = ap held_type top_root ∙ root_type segwit t (before + key_counts done) e
 
     pub under_root : under_top (preorders segwit before (t ⊳ done)) ≡ preorders segwit before done

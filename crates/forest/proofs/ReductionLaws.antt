@@ -7,8 +7,8 @@ use mathlib.Core.List.{List, ◌∷◌}
 use Prim.Native.Nat.{ℕ, suc, ◌+◌}
 use native.Mathlib.Omega.{arith}
 use Rattle.correctness.specs.declared.Correctness.{Correctness}
-use Rattle.correctness.specs.declared.Typed.{Typed}
-use Rattle.correctness.specs.declared.Typed.TheVariants.{Is, Not}
+use Rattle.correctness.specs.Typed.{Typed}
+use Rattle.std.specs.Prelude.{Ok, Err}
 use Rattle.correctness.specs.Rules as rules
 use Rattle.correctness.specs.Rules.{onward, no_children, threshold_child, threshold_from, threshold}
 use Rattle.standard.specs.Tree as tree
@@ -59,19 +59,19 @@ combination_kind_lem or_i a b = refl
 -- Answers
 
 making_same : (o : Typed) (f g : Correctness → Making) → ((c : Correctness) → f c ≡ g c) → making o f ≡ making o g
-making_same (Is c) f g e = e c
-making_same (Not e') f g e = refl
+making_same (Ok c) f g e = e c
+making_same (Err e') f g e = refl
 
 making_onward : (o : Typed) (rule : Correctness → Typed) (f : Correctness → Making) → making (onward o rule) f ≡ making o (λ c. making (rule c) f)
-making_onward (Is c) rule f = refl
-making_onward (Not e) rule f = refl
+making_onward (Ok c) rule f = refl
+making_onward (Err e) rule f = refl
 
 -- The types of several trees
 
 pub all_typed : (segwit : Bool) (ts : Trees) (h : AllHaveTypes segwit ts) → types_of segwit ts ≡ all (types_given segwit ts h)
 all_typed segwit nil h = refl
 all_typed segwit (t ⊳ ts) h =
-    ap (λ (o : Typed). and_then o (types_of segwit ts)) h.0.1 ∙ ap (and_then (Is h.0.0)) (all_typed segwit ts h.1)
+    ap (λ (o : Typed). and_then o (types_of segwit ts)) h.0.1 ∙ ap (and_then (Ok h.0.0)) (all_typed segwit ts h.1)
 
 module _ (segwit : Bool) (before : ℕ) where
   -- one child

@@ -1,7 +1,7 @@
 -- For the proof: the nodes of the finished trees, the newest first, which are the preorder of the trees in script order; when lists of nodes and keys are those of finished trees, and when what is said of a new node on lists is what is said of it on trees.
 use Rattle.std.specs.Prelude.{◌≡◌, Bool, List, [], ◌∷◌, ◌++◌, ℕ, suc, ◌+◌, length}
 use Rattle.correctness.specs.declared.Correctness.{Correctness}
-use Rattle.correctness.specs.declared.Typed.TheVariants.{Is}
+use Rattle.std.specs.Prelude.{Ok}
 use Rattle.standard.specs.Tree.{Leaf, True, False, PkK, RawPkH, After, Older, HashLock, Multi, MultiA, Tree, Trees, leaf, wrap, join, and_or, thresh, nil, ◌⊳◌, many, key_count, key_counts}
 use Rattle.standard.specs.Types.{type_of, judge, passes, fails}
 use Rattle.standard.specs.Table.{Node, leaf_kind, wrapper_kind, combination_kind, and_or_kind, thresh_kind, key_place, leaf_offsets, key_table, root_node}
@@ -107,7 +107,7 @@ own_keys (thresh k x xs) = []
 -- Lists and trees
 
 abbrev pub HasType : Bool → Tree → Type 0
-HasType segwit t = (c : Correctness) × (type_of segwit t ≡ Is c)
+HasType segwit t = (c : Correctness) × (type_of segwit t ≡ Ok c)
 
 -- every finished tree has a type
 abbrev pub AllHaveTypes : Bool → Trees → Type 0

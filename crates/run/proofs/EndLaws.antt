@@ -18,7 +18,7 @@ use Rattle.base_input.specs.declared.Base.TheVariants.{B, K, «V», W}
 use Rattle.base_input.specs.Tests.{is_b}
 use Rattle.base_input.specs.Numbers.{base_of}
 use Rattle.lex.specs.Token.{Lexeme}
-use Rattle.correctness.specs.declared.Typed.TheVariants.{Is}
+use Rattle.std.specs.Prelude.{Ok}
 use Rattle.standard.specs.Types.{type_of}
 use Rattle.standard.specs.Tree.{Tree, Trees, nil, ◌⊳◌, sizes}
 use Rattle.standard.specs.Table.{Node, cells, node_table, key_table}
@@ -143,11 +143,11 @@ module _ (segwit : Bool) (script tokens : List ℕ) (count : ℕ) (limits : Limi
   some_node = let e : sizes done ≡ sizes (the_tree_lem.0 ⊳ nil) = ap sizes the_tree_lem.1 in omega (arith, nodes_are segwit script tokens count limits running, e, size_some the_tree_lem.0)
 
   -- the newest node is the tree's root, and holds its type
-  root_type : type_of segwit the_tree_lem.0 ≡ Is (held_type (node_at nodes (s.nodes - 1)))
+  root_type : type_of segwit the_tree_lem.0 ≡ Ok (held_type (node_at nodes (s.nodes - 1)))
   unfolding view_of
   root_type =
       let f : Forest segwit (newest (node_at nodes) s.nodes) (take s.keys keys) (the_tree_lem.0 ⊳ nil) = rw the_tree_lem.1 at running.same.forest in
-      forest_top segwit the_tree_lem.0 nil f ∙ ap (λ (ns : List Node). Is (held_type (top_node ns))) (newest_pop (node_at nodes) s.nodes some_node)
+      forest_top segwit the_tree_lem.0 nil f ∙ ap (λ (ns : List Node). Ok (held_type (top_node ns))) (newest_pop (node_at nodes) s.nodes some_node)
 
   abbrev base_cell : ℕ
   base_cell = get_or nodes (9 * (s.nodes - 1) + 5) 0

@@ -6,8 +6,8 @@ use mathlib.Core.List.{List, [], ◌∷◌, reverse_aux, reverse-reverse}
 use native.Mathlib.Omega.{arith}
 use Rattle.std.proofs.Math.ListN.{length, length-reverse_aux}
 use Rattle.correctness.specs.declared.Correctness.{Correctness}
-use Rattle.correctness.specs.declared.Typed.{Typed}
-use Rattle.correctness.specs.declared.Typed.TheVariants.{Is, Not}
+use Rattle.correctness.specs.Typed.{Typed}
+use Rattle.std.specs.Prelude.{Ok, Err}
 use Rattle.base_input.specs.Tests.{is_b}
 use Rattle.lex.specs.Token.{Lexeme}
 use Rattle.tables.specs.Choose.{pick}
@@ -66,7 +66,7 @@ room_numbers n h = by_parts (leb 15 n) (leb n 17) refl refl h
 module _ (segwit : Bool) where
   -- a tree of base B that is well typed, allowed and written with these tokens
   abbrev pub Right : List Lexeme → Tree → Type 0
-  Right tokens u = (written u ≡ tokens) × (Passed segwit u × ((c : Correctness) × (type_of segwit u ≡ Is c) × (is_b c.base ≡ true)))
+  Right tokens u = (written u ≡ tokens) × (Passed segwit u × ((c : Correctness) × (type_of segwit u ≡ Ok c) × (is_b c.base ≡ true)))
 
   -- Sound, with limits
 
@@ -86,8 +86,8 @@ module _ (segwit : Bool) where
   Ends tokens (refused r) = within 9 r.number 19 ≡ true
 
   top_ends : (tokens : List Lexeme) (t : Tree) → Passed segwit t → written t ≡ tokens → (o : Typed) → type_of segwit t ≡ o → Ends tokens (top_is t o)
-  top_ends tokens t p w (Not x) e = let q : Not x ≡ Is p.1.0 = sym e ∙ p.1.1 in let z : ◌≡◌ {A = ℕ} 0 1 = cc in let b : ⊥ = omega arith in absurd b
-  top_ends tokens t p w (Is c) e = by (is_b c.base) refl
+  top_ends tokens t p w (Err x) e = let q : Err x ≡ Ok p.1.0 = sym e ∙ p.1.1 in let z : ◌≡◌ {A = ℕ} 0 1 = cc in let b : ⊥ = omega arith in absurd b
+  top_ends tokens t p w (Ok c) e = by (is_b c.base) refl
     where
       by : (b : Bool) → is_b c.base ≡ b → Ends tokens (pick b (accepted t) (refused (refusal 19 0 [])))
       by true eb = (w, (p, (c, e, eb)))
@@ -186,8 +186,8 @@ module _ (segwit : Bool) where
     EndsAmple (refused r) = (within 9 r.number 14 || within 18 r.number 19) ≡ true
 
     top_ample : (t : Tree) → Passed segwit t → (o : Typed) → type_of segwit t ≡ o → EndsAmple (top_is t o)
-    top_ample t p (Not x) e = let q : Not x ≡ Is p.1.0 = sym e ∙ p.1.1 in let z : ◌≡◌ {A = ℕ} 0 1 = cc in let b : ⊥ = omega arith in absurd b
-    top_ample t p (Is c) e = by (is_b c.base)
+    top_ample t p (Err x) e = let q : Err x ≡ Ok p.1.0 = sym e ∙ p.1.1 in let z : ◌≡◌ {A = ℕ} 0 1 = cc in let b : ⊥ = omega arith in absurd b
+    top_ample t p (Ok c) e = by (is_b c.base)
       where
         by : (b : Bool) → EndsAmple (pick b (accepted t) (refused (refusal 19 0 [])))
         by true = tt
@@ -343,12 +343,12 @@ module _ (segwit : Bool) (limits : Limits) where
       (λ f. after_run m (step segwit x.work x.left x.done) s f) (λ r w f. absurd (stops_after (suc m) r s f)) e
 
   top_tree : (t u : Tree) (o : Typed) → top_is t o ≡ accepted u → t ≡ u
-  top_tree t u (Is c) e = by (is_b c.base) e
+  top_tree t u (Ok c) e = by (is_b c.base) e
     where
       by : (b : Bool) → pick b (accepted t) (refused (refusal 19 0 [])) ≡ accepted u → t ≡ u
       by true f = cc
       by false f = let z : ◌≡◌ {A = ℕ} 0 1 = cc in let b : ⊥ = omega arith in absurd b
-  top_tree t u (Not x) e = let z : ◌≡◌ {A = ℕ} 0 1 = cc in let b : ⊥ = omega arith in absurd b
+  top_tree t u (Err x) e = let z : ◌≡◌ {A = ℕ} 0 1 = cc in let b : ⊥ = omega arith in absurd b
 
   closes_tree : (left : List Lexeme) (done : Trees) (u : Tree) → closes segwit left done ≡ accepted u → (left ≡ []) × (done ≡ u ⊳ nil)
   closes_tree (x ∷ left) done u e = let z : ◌≡◌ {A = ℕ} 0 1 = cc in let b : ⊥ = omega arith in absurd b

@@ -4,8 +4,8 @@ use Rattle.std.specs.Prelude.{◌≡◌, refl, Bool, true, false, ◌&&◌, ℕ,
 use Rattle.std.proofs.Common.{sym, ap, ◌∙◌, true≢false, arith, eqb-true}
 use mathlib.Core.List.{List, [], ◌∷◌, ◌++◌, reverse_aux, append-nil, reverse_aux-append}
 use Rattle.correctness.specs.declared.Correctness.{Correctness}
-use Rattle.correctness.specs.declared.Typed.{Typed}
-use Rattle.correctness.specs.declared.Typed.TheVariants.{Is, Not}
+use Rattle.correctness.specs.Typed.{Typed}
+use Rattle.std.specs.Prelude.{Ok, Err}
 use Rattle.base_input.specs.Tests.{is_w}
 use Rattle.correctness.specs.Rules as rules
 use Rattle.correctness.specs.Rules.{onward}
@@ -131,7 +131,7 @@ module _ (segwit : Bool) where
   -- What the row of an expression reads as one, under VERIFY too
   record Core (x : Tree) : Type 0 where
     type : Correctness
-    typed : type_of segwit x ≡ Is type
+    typed : type_of segwit x ≡ Ok type
     runs : (work : List NonTerm) (left : List Lexeme) (done : Trees) → Reach (goes_on (Expression ∷ work) (tree_read x left) done) (goes_on work left (x ⊳ done))
     end : Lexeme
     rest : List Lexeme → List Lexeme
@@ -151,14 +151,14 @@ module _ (segwit : Bool) where
     x : Tree
     core : Core x
     cores : Cores us
-    typed : type_of segwit (chain us x) ≡ Is c
+    typed : type_of segwit (chain us x) ≡ Ok c
     reads : (left : List Lexeme) → tree_read t left ≡ tree_read x (chain_read us left)
     kept : row_form t ≡ true → chain us x ≡ t
 
   -- The same as one tree, where MaybeAndV stands under the expression
   record Canon (t : Tree) (c : Correctness) : Type 0 where
     x : Tree
-    typed : type_of segwit x ≡ Is c
+    typed : type_of segwit x ≡ Ok c
     runs : (work : List NonTerm) (left : List Lexeme) (done : Trees) → is_and_v left ≡ false → Reach (goes_on (Expression ∷ MaybeAndV ∷ work) (tree_read x left) done) (goes_on work left (x ⊳ done))
     end : Lexeme
     rest : List Lexeme → List Lexeme
@@ -171,7 +171,7 @@ module _ (segwit : Bool) where
   -- A W, read by its own row
   record WParsed (t : Tree) (c : Correctness) : Type 0 where
     x : Tree
-    typed : type_of segwit x ≡ Is c
+    typed : type_of segwit x ≡ Ok c
     runs : (work : List NonTerm) (left : List Lexeme) (done : Trees) → Reach (goes_on (WExpression ∷ work) (tree_read x left) done) (goes_on work left (x ⊳ done))
     form : row_form x ≡ true
     reads : (left : List Lexeme) → tree_read t left ≡ tree_read x left
@@ -179,23 +179,23 @@ module _ (segwit : Bool) where
 
   -- types of nodes from those of their children, and back
 
-  wrap_typed : (w : Wrapper) (x : Tree) (c r : Correctness) → type_of segwit x ≡ Is c → wrapper_rule segwit w c ≡ Is r → type_of segwit (wrap w x) ≡ Is r
+  wrap_typed : (w : Wrapper) (x : Tree) (c r : Correctness) → type_of segwit x ≡ Ok c → wrapper_rule segwit w c ≡ Ok r → type_of segwit (wrap w x) ≡ Ok r
   wrap_typed w x c r e f = rw e f
 
-  join_typed : (k : Combination) (x y : Tree) (a b r : Correctness) → type_of segwit x ≡ Is a → type_of segwit y ≡ Is b → combination_rule k a b ≡ Is r → type_of segwit (join k x y) ≡ Is r
+  join_typed : (k : Combination) (x y : Tree) (a b r : Correctness) → type_of segwit x ≡ Ok a → type_of segwit y ≡ Ok b → combination_rule k a b ≡ Ok r → type_of segwit (join k x y) ≡ Ok r
   join_typed k x y a b r e f g = rw (e, f) g
 
-  join_parts : (k : Combination) (x y : Tree) (r : Correctness) → type_of segwit (join k x y) ≡ Is r
-      → (a : Correctness) × (b : Correctness) × (type_of segwit x ≡ Is a) × (type_of segwit y ≡ Is b) × (combination_rule k a b ≡ Is r)
+  join_parts : (k : Combination) (x y : Tree) (r : Correctness) → type_of segwit (join k x y) ≡ Ok r
+      → (a : Correctness) × (b : Correctness) × (type_of segwit x ≡ Ok a) × (type_of segwit y ≡ Ok b) × (combination_rule k a b ≡ Ok r)
   join_parts k x y r e =
       let h = onward_is (type_of segwit x) (λ a. onward (type_of segwit y) (λ b. combination_rule k a b)) r e in
       let g = onward_is (type_of segwit y) (λ b. combination_rule k h.0 b) r h.2 in
       (h.0, g.0, h.1, g.1, g.2)
 
-  wrap_passes : (w : Wrapper) (x : Tree) (c : Correctness) → type_of segwit (wrap w x) ≡ Is c → judge segwit (wrap w x) ≡ passes
+  wrap_passes : (w : Wrapper) (x : Tree) (c : Correctness) → type_of segwit (wrap w x) ≡ Ok c → judge segwit (wrap w x) ≡ passes
   wrap_passes w x c e = rw e
 
-  join_passes : (k : Combination) (x y : Tree) (c : Correctness) → type_of segwit (join k x y) ≡ Is c → judge segwit (join k x y) ≡ passes
+  join_passes : (k : Combination) (x y : Tree) (c : Correctness) → type_of segwit (join k x y) ≡ Ok c → judge segwit (join k x y) ≡ passes
   join_passes k x y c e = rw e
 
   -- Chains
@@ -203,7 +203,7 @@ module _ (segwit : Bool) where
   goes_on_lem : {x : Tree} → Core x → (left : List Lexeme) → is_and_v (tree_read x left) ≡ true
   goes_on_lem c left = rw c.ends (c.fine.0 (c.rest left))
 
-  chain_run : (us : Trees) → Cores us → (v y : Tree) (c : Correctness) → type_of segwit (join and_v (chain us v) y) ≡ Is c
+  chain_run : (us : Trees) → Cores us → (v y : Tree) (c : Correctness) → type_of segwit (join and_v (chain us v) y) ≡ Ok c
       → (work : List NonTerm) (left : List Lexeme) (done : Trees) → is_and_v left ≡ false
       → Reach (goes_on (AndV ∷ work) (chain_read us left) (v ⊳ (y ⊳ done))) (goes_on work left (join and_v (chain us v) y ⊳ done))
   chain_run nil cs v y c e work left done stop = later (rw stop (runs.made segwit (join and_v v y) (join_passes and_v v y c e) at_once))
@@ -214,7 +214,7 @@ module _ (segwit : Bool) where
       ⨾ chain_run us cs.1 u v h.0 h.2 (AndV ∷ work) left (y ⊳ done) stop
       ⨾ later (rw stop (runs.made segwit (join and_v (chain (u ⊳ us) v) y) (join_passes and_v (chain (u ⊳ us) v) y c e) at_once))
 
-  canon_run : (us : Trees) → Cores us → (x : Tree) (c : Correctness) → type_of segwit (chain us x) ≡ Is c → (work : List NonTerm) (left : List Lexeme) (done : Trees) → is_and_v left ≡ false
+  canon_run : (us : Trees) → Cores us → (x : Tree) (c : Correctness) → type_of segwit (chain us x) ≡ Ok c → (work : List NonTerm) (left : List Lexeme) (done : Trees) → is_and_v left ≡ false
       → Reach (goes_on (MaybeAndV ∷ work) (chain_read us left) (x ⊳ done)) (goes_on work left (chain us x ⊳ done))
   canon_run nil cs x c e work left done stop = later (rw stop at_once)
   canon_run (u ⊳ us) cs x c e work left done stop =
@@ -240,14 +240,14 @@ module _ (segwit : Bool) where
   }
 
   -- an expression with nothing before it
-  alone : (t x : Tree) (c : Correctness) → Core x → type_of segwit x ≡ Is c → ((left : List Lexeme) → tree_read t left ≡ tree_read x left) → (row_form t ≡ true → x ≡ t) → Parsed t c
+  alone : (t x : Tree) (c : Correctness) → Core x → type_of segwit x ≡ Ok c → ((left : List Lexeme) → tree_read t left ≡ tree_read x left) → (row_form t ≡ true → x ≡ t) → Parsed t c
   alone t x c k e r h = record { us = nil; x = x; core = k; cores = tt; typed = e; reads = r; kept = h }
 
   -- a tree that can be dissatisfied has no and_v before it
   abbrev Solo : Tree → Correctness → Type 0
-  Solo t c = (x : Tree) × Core x × (type_of segwit x ≡ Is c) × ((left : List Lexeme) → tree_read t left ≡ tree_read x left) × (row_form t ≡ true → x ≡ t)
+  Solo t c = (x : Tree) × Core x × (type_of segwit x ≡ Ok c) × ((left : List Lexeme) → tree_read t left ≡ tree_read x left) × (row_form t ≡ true → x ≡ t)
 
-  solo_at : (t : Tree) (c : Correctness) (us : Trees) (x : Tree) → Core x → type_of segwit (chain us x) ≡ Is c → ((left : List Lexeme) → tree_read t left ≡ tree_read x (chain_read us left))
+  solo_at : (t : Tree) (c : Correctness) (us : Trees) (x : Tree) → Core x → type_of segwit (chain us x) ≡ Ok c → ((left : List Lexeme) → tree_read t left ≡ tree_read x (chain_read us left))
       → (row_form t ≡ true → chain us x ≡ t) → c.dissatisfiable ≡ true → Solo t c
   solo_at t c nil x k e r h d = (x, k, e, r, h)
   solo_at t c (u ⊳ us) x k e r kept d =
@@ -258,7 +258,7 @@ module _ (segwit : Bool) where
   solo t c p d = solo_at t c p.us p.x p.core p.typed p.reads p.kept d
 
   -- an expression whose last token is no EQUAL
-  plain : (x : Tree) (c : Correctness) (e : Lexeme) (r : List Lexeme → List Lexeme) → type_of segwit x ≡ Is c → ((left : List Lexeme) → tree_read x left ≡ e ∷ r left) → Fine e
+  plain : (x : Tree) (c : Correctness) (e : Lexeme) (r : List Lexeme → List Lexeme) → type_of segwit x ≡ Ok c → ((left : List Lexeme) → tree_read x left ≡ e ∷ r left) → Fine e
       → act_at segwit afterVerify e ≡ put_back (Verify ∷ []) → is_and_v_tree x ≡ false → row_form x ≡ true
       → ((work : List NonTerm) (left : List Lexeme) (done : Trees) → Reach (goes_on (Expression ∷ work) (tree_read x left) done) (goes_on work left (x ⊳ done))) → Core x
   plain x c e r te en f back si fo rn = record {
@@ -385,8 +385,8 @@ module _ (segwit : Bool) where
   -- Wrappers
 
   -- the and_v's float out of c:, v: and n:
-  wrap_float : (w : Wrapper) → floats w ≡ true → (us : Trees) (x : Tree) (c r : Correctness) → type_of segwit (chain us x) ≡ Is c → wrapper_rule segwit w c ≡ Is r
-      → (z : Correctness) × (type_of segwit (wrap w x) ≡ Is z) × (type_of segwit (chain us (wrap w x)) ≡ Is r)
+  wrap_float : (w : Wrapper) → floats w ≡ true → (us : Trees) (x : Tree) (c r : Correctness) → type_of segwit (chain us x) ≡ Ok c → wrapper_rule segwit w c ≡ Ok r
+      → (z : Correctness) × (type_of segwit (wrap w x) ≡ Ok z) × (type_of segwit (chain us (wrap w x)) ≡ Ok r)
   wrap_float w n nil x c r e f = let h = wrap_typed w x c r e f in (r, h, h)
   wrap_float w n (u ⊳ us) x c r e f =
       let h = join_parts and_v (chain us u) x c e in
@@ -399,8 +399,8 @@ module _ (segwit : Bool) where
   none_float f nil x t e n = ap f e
   none_float f (u ⊳ us) x t e n = absurd (true≢false (ap is_and_v_tree e ∙ n))
 
-  float : (w : Wrapper) (t : Tree) (c r : Correctness) → floats w ≡ true → wrapper_rule segwit w c ≡ Is r → ((left : List Lexeme) → reverse_aux (opening w) left ≡ left)
-      → ((x : Tree) (z : Correctness) → Core x → type_of segwit (wrap w x) ≡ Is z → Core (wrap w x)) → Parsed t c → Parsed (wrap w t) r
+  float : (w : Wrapper) (t : Tree) (c r : Correctness) → floats w ≡ true → wrapper_rule segwit w c ≡ Ok r → ((left : List Lexeme) → reverse_aux (opening w) left ≡ left)
+      → ((x : Tree) (z : Correctness) → Core x → type_of segwit (wrap w x) ≡ Ok z → Core (wrap w x)) → Parsed t c → Parsed (wrap w t) r
   float w t c r n f o core p =
       let h = wrap_float w n p.us p.x c r p.typed f in
       record {
@@ -413,20 +413,20 @@ module _ (segwit : Bool) where
         kept = λ f. let h = wrap_form_parts w t f in none_float (wrap w) p.us p.x t (p.kept h.1) (rw n at h.0);
       }
 
-  core_check : (x : Tree) (z : Correctness) → Core x → type_of segwit (wrap check x) ≡ Is z → Core (wrap check x)
+  core_check : (x : Tree) (z : Correctness) → Core x → type_of segwit (wrap check x) ≡ Ok z → Core (wrap check x)
   core_check x z c e = plain (wrap check x) z (op CHECKSIG) (tree_read x) e (λ left. refl) (λ left. refl, refl, refl, λ k n. refl) refl refl (wrap_form check x c.single c.form)
       (λ work left done. later (c.runs (Check ∷ work) left done) ⨾ later (runs.made segwit (wrap check x) (wrap_passes check x z e) at_once))
 
-  core_zero_not_equal : (x : Tree) (z : Correctness) → Core x → type_of segwit (wrap zeroNotEqual x) ≡ Is z → Core (wrap zeroNotEqual x)
+  core_zero_not_equal : (x : Tree) (z : Correctness) → Core x → type_of segwit (wrap zeroNotEqual x) ≡ Ok z → Core (wrap zeroNotEqual x)
   core_zero_not_equal x z c e = plain (wrap zeroNotEqual x) z (op ZERONOTEQUAL) (tree_read x) e (λ left. refl) (λ left. refl, refl, refl, λ k n. refl) refl refl (wrap_form zeroNotEqual x c.single c.form)
       (λ work left done. later (c.runs (ZeroNotEqual ∷ work) left done) ⨾ later (runs.made segwit (wrap zeroNotEqual x) (wrap_passes zeroNotEqual x z e) at_once))
 
-  core_verify : (x : Tree) (z : Correctness) → Core x → type_of segwit (wrap verify x) ≡ Is z → Core (wrap verify x)
+  core_verify : (x : Tree) (z : Correctness) → Core x → type_of segwit (wrap verify x) ≡ Ok z → Core (wrap verify x)
   core_verify x z c e = plain (wrap verify x) z (op VERIFY) (tree_read x) e (λ left. refl) (λ left. refl, refl, refl, λ k n. refl) refl refl (wrap_form verify x c.single c.form)
       (λ work left done. c.verified work left done ⨾ later (runs.made segwit (wrap verify x) (wrap_passes verify x z e) at_once))
 
   -- d: and j:
-  core_if : (w : Wrapper) → floats w ≡ false → (t : Tree) (c r : Correctness) (p : List Lexeme → List Lexeme) (k : Canon t c) → type_of segwit (wrap w k.x) ≡ Is r
+  core_if : (w : Wrapper) → floats w ≡ false → (t : Tree) (c r : Correctness) (p : List Lexeme → List Lexeme) (k : Canon t c) → type_of segwit (wrap w k.x) ≡ Ok r
       → ((left : List Lexeme) → tree_read (wrap w k.x) left ≡ op ENDIF ∷ tree_read k.x (op IF ∷ p left))
       → ((work : List NonTerm) (left : List Lexeme) (done : Trees) → step segwit (EndIf ∷ work) (op IF ∷ p left) done ≡ goes_on (Reduce1 w ∷ work) left done) → Core (wrap w k.x)
   core_if w n t c r p k te en next = plain (wrap w k.x) r (op ENDIF) (λ left. tree_read k.x (op IF ∷ p left)) te en (λ left. refl, refl, refl, λ k n. refl) refl refl (wrap_form w k.x (rw n) k.form)
@@ -438,7 +438,7 @@ module _ (segwit : Bool) where
   wrap_kept : (w : Wrapper) (t : Tree) (c : Correctness) (k : Canon t c) → row_form (wrap w t) ≡ true → wrap w k.x ≡ wrap w t
   wrap_kept w t c k f = ap (wrap w) (k.kept (wrap_form_parts w t f).1)
 
-  wrap_alt : (t : Tree) (c r : Correctness) → wrapper_rule segwit alt c ≡ Is r → Canon t c → WParsed (wrap alt t) r
+  wrap_alt : (t : Tree) (c r : Correctness) → wrapper_rule segwit alt c ≡ Ok r → Canon t c → WParsed (wrap alt t) r
   wrap_alt t c r f k =
       let te = wrap_typed alt k.x c r k.typed f in
       record {
@@ -450,7 +450,7 @@ module _ (segwit : Bool) where
         kept = wrap_kept alt t c k;
       }
 
-  wrap_swap : (t : Tree) (c r : Correctness) → wrapper_rule segwit swap c ≡ Is r → Canon t c → WParsed (wrap swap t) r
+  wrap_swap : (t : Tree) (c r : Correctness) → wrapper_rule segwit swap c ≡ Ok r → Canon t c → WParsed (wrap swap t) r
   wrap_swap t c r f k =
       let te = wrap_typed swap k.x c r k.typed f in
       let back : (work : List NonTerm) (left : List Lexeme) (done : Trees) → Reach (goes_on (WExpression ∷ work) (tree_read k.x (op SWAP ∷ left)) done) (goes_on (Swap ∷ work) (op SWAP ∷ left) (k.x ⊳ done)) =
@@ -469,10 +469,10 @@ module _ (segwit : Bool) where
   ParB false t c = Parsed t c
 
   abbrev Par : Tree → Typed → Type 0
-  Par t (Is c) = ParB (is_w c.base) t c
-  Par t (Not e) = Unit {0}
+  Par t (Ok c) = ParB (is_w c.base) t c
+  Par t (Err e) = Unit {0}
 
-  one_par : (w : Wrapper) (t : Tree) (c r : Correctness) → wrapper_rule segwit w c ≡ Is r → Parsed t c → ParB (gives_w w) (wrap w t) r
+  one_par : (w : Wrapper) (t : Tree) (c r : Correctness) → wrapper_rule segwit w c ≡ Ok r → Parsed t c → ParB (gives_w w) (wrap w t) r
   one_par alt t c r f p = wrap_alt t c r f (canon t c p)
   one_par swap t c r f p = wrap_swap t c r f (canon t c p)
   one_par check t c r f p = float check t c r refl f (λ left. refl) core_check p
@@ -495,7 +495,7 @@ module _ (segwit : Bool) where
   cores_append (u ⊳ us) vs p q = (p.0, cores_append us vs p.1 q)
 
   -- an and_v of two chains is one chain
-  chains_typed : (ua : Trees) (xa : Tree) (us : Trees) (x : Tree) (r : Correctness) → type_of segwit (join and_v (chain ua xa) (chain us x)) ≡ Is r → type_of segwit (chain (◌⊕◌ us (xa ⊳ ua)) x) ≡ Is r
+  chains_typed : (ua : Trees) (xa : Tree) (us : Trees) (x : Tree) (r : Correctness) → type_of segwit (join and_v (chain ua xa) (chain us x)) ≡ Ok r → type_of segwit (chain (◌⊕◌ us (xa ⊳ ua)) x) ≡ Ok r
   chains_typed ua xa nil x r e = e
   chains_typed ua xa (u ⊳ us) x r e =
       let h = join_parts and_v (chain ua xa) (join and_v (chain us u) x) r e in
@@ -509,7 +509,7 @@ module _ (segwit : Bool) where
   and_v_kept ua xa nil x a b e f n = rw (e, f)
   and_v_kept ua xa (u ⊳ us) x a b e f n = absurd (true≢false (ap is_and_v_tree f ∙ n))
 
-  and_v_par : (a b : Tree) (c d r : Correctness) → combination_rule and_v c d ≡ Is r → Parsed a c → Parsed b d → Parsed (join and_v a b) r
+  and_v_par : (a b : Tree) (c d r : Correctness) → combination_rule and_v c d ≡ Ok r → Parsed a c → Parsed b d → Parsed (join and_v a b) r
   and_v_par a b c d r f p q = record {
     us = ◌⊕◌ q.us (p.x ⊳ p.us);
     x = q.x;
@@ -521,8 +521,8 @@ module _ (segwit : Bool) where
   }
 
   -- the and_v's float out of and_b's first child
-  and_b_float : (us : Trees) (x y : Tree) (c d r : Correctness) → type_of segwit (chain us x) ≡ Is c → type_of segwit y ≡ Is d → combination_rule and_b c d ≡ Is r
-      → (z : Correctness) × (type_of segwit (join and_b x y) ≡ Is z) × (type_of segwit (chain us (join and_b x y)) ≡ Is r)
+  and_b_float : (us : Trees) (x y : Tree) (c d r : Correctness) → type_of segwit (chain us x) ≡ Ok c → type_of segwit y ≡ Ok d → combination_rule and_b c d ≡ Ok r
+      → (z : Correctness) × (type_of segwit (join and_b x y) ≡ Ok z) × (type_of segwit (chain us (join and_b x y)) ≡ Ok r)
   and_b_float nil x y c d r e g f = let h = join_typed and_b x y c d r e g f in (r, h, h)
   and_b_float (u ⊳ us) x y c d r e g f =
       let h = join_parts and_v (chain us u) x c e in
@@ -531,7 +531,7 @@ module _ (segwit : Bool) where
       (k.0, t, join_typed and_v (chain us u) (join and_b x y) h.0 k.0 r h.2 t k.2)
 
   -- and_b and or_b: the W is read first, then the expression
-  core_w : (k : Combination) (x y : Tree) (z : Correctness) (e : Lexeme) → type_of segwit (join k x y) ≡ Is z → ((left : List Lexeme) → tree_read (join k x y) left ≡ e ∷ tree_read y (tree_read x left)) → Fine e
+  core_w : (k : Combination) (x y : Tree) (z : Correctness) (e : Lexeme) → type_of segwit (join k x y) ≡ Ok z → ((left : List Lexeme) → tree_read (join k x y) left ≡ e ∷ tree_read y (tree_read x left)) → Fine e
       → act_at segwit afterVerify e ≡ put_back (Verify ∷ []) → is_and_v_tree (join k x y) ≡ false → row_form (join k x y) ≡ true
       → ((work : List NonTerm) (left : List Lexeme) (done : Trees) → step segwit (Expression ∷ work) (e ∷ left) done ≡ goes_on (WExpression ∷ Expression ∷ Reduce2 k ∷ work) left done)
       → ((work : List NonTerm) (left : List Lexeme) (done : Trees) → Reach (goes_on (WExpression ∷ work) (tree_read y left) done) (goes_on work left (y ⊳ done)))
@@ -542,7 +542,7 @@ module _ (segwit : Bool) where
       rw (en left) (later (rw (next work (tree_read y (tree_read x left)) done) (ry (Expression ∷ Reduce2 k ∷ work) (tree_read x left) done))) in
       p1 ⨾ c.runs (Reduce2 k ∷ work) left (y ⊳ done) ⨾ later (runs.made segwit (join k x y) (join_passes k x y z te) at_once))
 
-  and_b_par : (a b : Tree) (c d r : Correctness) → combination_rule and_b c d ≡ Is r → Parsed a c → WParsed b d → Parsed (join and_b a b) r
+  and_b_par : (a b : Tree) (c d r : Correctness) → combination_rule and_b c d ≡ Ok r → Parsed a c → WParsed b d → Parsed (join and_b a b) r
   and_b_par a b c d r f p q =
       let h = and_b_float p.us p.x q.x c d r p.typed q.typed f in
       record {
@@ -558,14 +558,14 @@ module _ (segwit : Bool) where
   join_kept : (k : Combination) (a b x y : Tree) → (row_form a ≡ true → x ≡ a) → (row_form b ≡ true → y ≡ b) → row_form (join k a b) ≡ true → join k x y ≡ join k a b
   join_kept k a b x y p q f = let h = join_form_parts k a b f in rw (p h.2, q h.3)
 
-  or_b_par : (a b : Tree) (c d r : Correctness) → combination_rule or_b c d ≡ Is r → Solo a c → WParsed b d → Parsed (join or_b a b) r
+  or_b_par : (a b : Tree) (c d r : Correctness) → combination_rule or_b c d ≡ Ok r → Solo a c → WParsed b d → Parsed (join or_b a b) r
   or_b_par a b c d r f p q =
       let te = join_typed or_b p.0 q.x c d r p.2 q.typed f in
       alone (join or_b a b) (join or_b p.0 q.x) r
       (core_w or_b p.0 q.x r (op BOOLOR) te (λ left. refl) (λ left. refl, refl, refl, λ k n. refl) refl refl (join_form or_b p.0 q.x p.1.single refl p.1.form q.form) (λ work left done. refl) q.runs p.1) te
       (λ left. ap (λ l. op BOOLOR ∷ l) (q.reads (tree_read a left) ∙ ap (tree_read q.x) (p.3 left))) (join_kept or_b a b p.0 q.x p.4 q.kept)
 
-  or_d_par : (a b : Tree) (c d r : Correctness) → combination_rule or_d c d ≡ Is r → Solo a c → Canon b d → Parsed (join or_d a b) r
+  or_d_par : (a b : Tree) (c d r : Correctness) → combination_rule or_d c d ≡ Ok r → Solo a c → Canon b d → Parsed (join or_d a b) r
   or_d_par a b c d r f p q =
       let te = join_typed or_d p.0 q.x c d r p.2 q.typed f in
       alone (join or_d a b) (join or_d p.0 q.x) r
@@ -573,7 +573,7 @@ module _ (segwit : Bool) where
       (λ work left done. later (q.runs (EndIf ∷ work) (op NOTIF ∷ op IFDUP ∷ tree_read p.0 left) done refl) ⨾ later (later (p.1.runs (OrD ∷ work) left (q.x ⊳ done))) ⨾ later (runs.made segwit (join or_d p.0 q.x) (join_passes or_d p.0 q.x r te) at_once))) te
       (λ left. ap (λ l. op ENDIF ∷ l) (q.reads (op NOTIF ∷ op IFDUP ∷ tree_read a left) ∙ ap (λ l. tree_read q.x (op NOTIF ∷ op IFDUP ∷ l)) (p.3 left))) (join_kept or_d a b p.0 q.x p.4 q.kept)
 
-  or_c_par : (a b : Tree) (c d r : Correctness) → combination_rule or_c c d ≡ Is r → Solo a c → Canon b d → Parsed (join or_c a b) r
+  or_c_par : (a b : Tree) (c d r : Correctness) → combination_rule or_c c d ≡ Ok r → Solo a c → Canon b d → Parsed (join or_c a b) r
   or_c_par a b c d r f p q =
       let te = join_typed or_c p.0 q.x c d r p.2 q.typed f in
       let back : (work : List NonTerm) (left : List Lexeme) (done : Trees) → Reach (goes_on (EndIfNotIf ∷ work) (tree_read p.0 left) done) (goes_on (OrC ∷ work) left (p.0 ⊳ done)) =
@@ -583,7 +583,7 @@ module _ (segwit : Bool) where
       (λ work left done. later (q.runs (EndIf ∷ work) (op NOTIF ∷ tree_read p.0 left) done refl) ⨾ later (back work left (q.x ⊳ done)) ⨾ later (runs.made segwit (join or_c p.0 q.x) (join_passes or_c p.0 q.x r te) at_once))) te
       (λ left. ap (λ l. op ENDIF ∷ l) (q.reads (op NOTIF ∷ tree_read a left) ∙ ap (λ l. tree_read q.x (op NOTIF ∷ l)) (p.3 left))) (join_kept or_c a b p.0 q.x p.4 q.kept)
 
-  or_i_par : (a b : Tree) (c d r : Correctness) → combination_rule or_i c d ≡ Is r → Canon a c → Canon b d → Parsed (join or_i a b) r
+  or_i_par : (a b : Tree) (c d r : Correctness) → combination_rule or_i c d ≡ Ok r → Canon a c → Canon b d → Parsed (join or_i a b) r
   or_i_par a b c d r f p q =
       let te = join_typed or_i p.x q.x c d r p.typed q.typed f in
       alone (join or_i a b) (join or_i p.x q.x) r
@@ -591,7 +591,7 @@ module _ (segwit : Bool) where
       (λ work left done. later (q.runs (EndIf ∷ work) (op ELSE ∷ tree_read p.x (op IF ∷ left)) done refl) ⨾ later (p.runs (EndIfElse ∷ work) (op IF ∷ left) (q.x ⊳ done) refl) ⨾ later (runs.made segwit (join or_i p.x q.x) (join_passes or_i p.x q.x r te) at_once))) te
       (λ left. ap (λ l. op ENDIF ∷ l) (q.reads (op ELSE ∷ tree_read a (op IF ∷ left)) ∙ ap (λ l. tree_read q.x (op ELSE ∷ l)) (p.reads (op IF ∷ left)))) (join_kept or_i a b p.x q.x p.kept q.kept)
 
-  two_par : (k : Combination) (a b : Tree) (c d r : Correctness) → combination_rule k c d ≡ Is r → Parsed a c → ParB (takes_w k) b d → Parsed (join k a b) r
+  two_par : (k : Combination) (a b : Tree) (c d r : Correctness) → combination_rule k c d ≡ Ok r → Parsed a c → ParB (takes_w k) b d → Parsed (join k a b) r
   two_par and_v a b c d r f p q = and_v_par a b c d r f p q
   two_par and_b a b c d r f p q = and_b_par a b c d r f p q
   two_par or_b a b c d r f p q = or_b_par a b c d r f (solo a c p (first_dissatisfiable_lem or_b c d r f refl)) q
@@ -599,9 +599,9 @@ module _ (segwit : Bool) where
   two_par or_c a b c d r f p q = or_c_par a b c d r f (solo a c p (first_dissatisfiable_lem or_c c d r f refl)) (canon b d q)
   two_par or_i a b c d r f p q = or_i_par a b c d r f (canon a c p) (canon b d q)
 
-  and_or_par : (x y z : Tree) (a b c r : Correctness) → rules.and_or a b c ≡ Is r → Solo x a → Canon y b → Canon z c → Parsed (and_or x y z) r
+  and_or_par : (x y z : Tree) (a b c r : Correctness) → rules.and_or a b c ≡ Ok r → Solo x a → Canon y b → Canon z c → Parsed (and_or x y z) r
   and_or_par x y z a b c r f p q s =
-      let te : type_of segwit (and_or p.0 q.x s.x) ≡ Is r = rw (p.2, q.typed, s.typed) f in
+      let te : type_of segwit (and_or p.0 q.x s.x) ≡ Ok r = rw (p.2, q.typed, s.typed) f in
       let ok : judge segwit (and_or p.0 q.x s.x) ≡ passes = rw te in
       alone (and_or x y z) (and_or p.0 q.x s.x) r
       (plain _ r (op ENDIF) (λ left. tree_read q.x (op ELSE ∷ tree_read s.x (op NOTIF ∷ tree_read p.0 left))) te (λ left. refl) (λ left. refl, refl, refl, λ k n. refl) refl refl (and_or_form p.0 q.x s.x p.1.single p.1.form q.form s.form)
@@ -675,9 +675,9 @@ module _ (segwit : Bool) where
       later (rw (counted_many q.ys, take_all q.ys done) (runs.made segwit (thresh k x q.ys) ok at_once)) in
       q.runs k 0 work (tree_read x left) done ⨾ first_read ⨾ all-taken
 
-  thresh_par : (k : ℕ) (x : Tree) (xs : Trees) (c : Correctness) (cs : List Correctness) (r : Correctness) → thresh_allowed k x xs ≡ true → rules.threshold (c ∷ cs) ≡ Is r → Solo x c → Others xs cs → Parsed (thresh k x xs) r
+  thresh_par : (k : ℕ) (x : Tree) (xs : Trees) (c : Correctness) (cs : List Correctness) (r : Correctness) → thresh_allowed k x xs ≡ true → rules.threshold (c ∷ cs) ≡ Ok r → Solo x c → Others xs cs → Parsed (thresh k x xs) r
   thresh_par k x xs c cs r g f p q =
-      let te : type_of segwit (thresh k p.0 q.ys) ≡ Is r = rw (p.2, q.typed) f in
+      let te : type_of segwit (thresh k p.0 q.ys) ≡ Ok r = rw (p.2, q.typed) f in
       let ok : judge segwit (thresh k p.0 q.ys) ≡ passes = rw (te, q.count, g) in
       alone (thresh k x xs) (thresh k p.0 q.ys) r
       (record {
@@ -701,54 +701,54 @@ module _ (segwit : Bool) where
   of_base b t c e p = rw e p
 
   wrap_par : (w : Wrapper) (t : Tree) (c : Correctness) (q : Typed) → wrapper_rule segwit w c ≡ q → ParB (is_w c.base) t c → Par (wrap w t) q
-  wrap_par w t c (Not e) f p = tt
-  wrap_par w t c (Is r) f p =
+  wrap_par w t c (Err e) f p = tt
+  wrap_par w t c (Ok r) f p =
       let h = wrapper_bases segwit w c r f in
       of_base (gives_w w) (wrap w t) r h.1 (one_par w t c r f (no_w_of (is_w c.base) t c h.0 p))
 
   wrap_any : (w : Wrapper) (t : Tree) (o : Typed) → Par t o → Par (wrap w t) (onward o (wrapper_rule segwit w))
-  wrap_any w t (Not e) p = tt
-  wrap_any w t (Is c) p = wrap_par w t c (wrapper_rule segwit w c) refl p
+  wrap_any w t (Err e) p = tt
+  wrap_any w t (Ok c) p = wrap_par w t c (wrapper_rule segwit w c) refl p
 
   join_par : (k : Combination) (a b : Tree) (c d : Correctness) (q : Typed) → combination_rule k c d ≡ q → ParB (is_w c.base) a c → ParB (is_w d.base) b d → Par (join k a b) q
-  join_par k a b c d (Not e) f p s = tt
-  join_par k a b c d (Is r) f p s =
+  join_par k a b c d (Err e) f p s = tt
+  join_par k a b c d (Ok r) f p s =
       let h = combination_bases k c d r f in
       of_base false (join k a b) r h.1.1 (two_par k a b c d r f (no_w_of (is_w c.base) a c h.0 p) (rw h.1.0 at s))
 
   join_any : (k : Combination) (a b : Tree) (o q : Typed) → Par a o → Par b q → Par (join k a b) (onward o (λ c. onward q (λ d. combination_rule k c d)))
-  join_any k a b (Not e) q p s = tt
-  join_any k a b (Is c) (Not e) p s = tt
-  join_any k a b (Is c) (Is d) p s = join_par k a b c d (combination_rule k c d) refl p s
+  join_any k a b (Err e) q p s = tt
+  join_any k a b (Ok c) (Err e) p s = tt
+  join_any k a b (Ok c) (Ok d) p s = join_par k a b c d (combination_rule k c d) refl p s
 
   and_or_at : (x y z : Tree) (a b c : Correctness) (q : Typed) → rules.and_or a b c ≡ q → ParB (is_w a.base) x a → ParB (is_w b.base) y b → ParB (is_w c.base) z c → Par (and_or x y z) q
-  and_or_at x y z a b c (Not e) f px py pz = tt
-  and_or_at x y z a b c (Is r) f px py pz =
+  and_or_at x y z a b c (Err e) f px py pz = tt
+  and_or_at x y z a b c (Ok r) f px py pz =
       let h = and_or_bases a b c r f in
       of_base false (and_or x y z) r h.1.1.1
       (and_or_par x y z a b c r f (solo x a (no_w_of (is_w a.base) x a h.0 px) (and_or_dissatisfiable a b c r f)) (canon y b (no_w_of (is_w b.base) y b h.1.0 py)) (canon z c (no_w_of (is_w c.base) z c h.1.1.0 pz)))
 
   and_or_any : (x y z : Tree) (o q s : Typed) → Par x o → Par y q → Par z s → Par (and_or x y z) (onward o (λ a. onward q (λ b. onward s (λ c. rules.and_or a b c))))
-  and_or_any x y z (Not e) q s px py pz = tt
-  and_or_any x y z (Is a) (Not e) s px py pz = tt
-  and_or_any x y z (Is a) (Is b) (Not e) px py pz = tt
-  and_or_any x y z (Is a) (Is b) (Is c) px py pz = and_or_at x y z a b c (rules.and_or a b c) refl px py pz
+  and_or_any x y z (Err e) q s px py pz = tt
+  and_or_any x y z (Ok a) (Err e) s px py pz = tt
+  and_or_any x y z (Ok a) (Ok b) (Err e) px py pz = tt
+  and_or_any x y z (Ok a) (Ok b) (Ok c) px py pz = and_or_at x y z a b c (rules.and_or a b c) refl px py pz
 
   thresh_at : (k : ℕ) (x : Tree) (xs : Trees) (c : Correctness) (cs : List Correctness) (q : Typed) → thresh_allowed k x xs ≡ true → rules.threshold (c ∷ cs) ≡ q → ParB (is_w c.base) x c → ParAll xs cs → Par (thresh k x xs) q
-  thresh_at k x xs c cs (Not e) g f p s = tt
-  thresh_at k x xs c cs (Is r) g f p s =
+  thresh_at k x xs c cs (Err e) g f p s = tt
+  thresh_at k x xs c cs (Ok r) g f p s =
       let h = threshold_bases c cs r f in
       of_base false (thresh k x xs) r h.1.1.1 (thresh_par k x xs c cs r g f (solo x c (no_w_of (is_w c.base) x c h.0 p) h.1.0) (others xs cs s h.1.1.0))
 
   thresh_any : (k : ℕ) (x : Tree) (xs : Trees) (o : Typed) (q : AllTyped) → thresh_allowed k x xs ≡ true → Par x o → ParTypes xs q → Par (thresh k x xs) (ruled (and_then o q) rules.threshold)
-  thresh_any k x xs (Not e) q g p s = tt
-  thresh_any k x xs (Is c) (not_all e) g p s = tt
-  thresh_any k x xs (Is c) (all cs) g p s = thresh_at k x xs c cs (rules.threshold (c ∷ cs)) g refl p s
+  thresh_any k x xs (Err e) q g p s = tt
+  thresh_any k x xs (Ok c) (not_all e) g p s = tt
+  thresh_any k x xs (Ok c) (all cs) g p s = thresh_at k x xs c cs (rules.threshold (c ∷ cs)) g refl p s
 
   all_any : (x : Tree) (xs : Trees) (o : Typed) (q : AllTyped) → Par x o → ParTypes xs q → ParTypes (x ⊳ xs) (and_then o q)
-  all_any x xs (Not e) q p s = tt
-  all_any x xs (Is c) (not_all e) p s = tt
-  all_any x xs (Is c) (all cs) p s = (p, s)
+  all_any x xs (Err e) q p s = tt
+  all_any x xs (Ok c) (not_all e) p s = tt
+  all_any x xs (Ok c) (all cs) p s = (p, s)
 
   leaf_any : (l : Leaf) → allowed_leaf segwit l ≡ true → Par (leaf l) (type_of segwit (leaf l))
   leaf_any l g = of_base false (leaf l) (leaf_type l) (leaf_base l) (leaf_par l g)
@@ -770,17 +770,17 @@ module _ (segwit : Bool) where
     parses (x ⊳ xs) g = all_any x xs (type_of segwit x) (types_of segwit xs) (parse x (left_true (allowed segwit x) (all_allowed segwit xs) g)) (parses xs (right_true (allowed segwit x) (all_allowed segwit xs) g))
 
   -- The tokens of an allowed tree with a type that is no W are read, to a tree of the same type that has the rows' form; to the very tree, if it has that form
-  pub complete_form : (t : Tree) (c : Correctness) → allowed segwit t ≡ true → type_of segwit t ≡ Is c → is_w c.base ≡ false
-      → (u : Tree) × (type_of segwit u ≡ Is c) × (row_form u ≡ true) × (row_form t ≡ true → u ≡ t) × runs.Reach segwit (begin (reverse_aux (written t) [])) (goes_on [] [] (u ⊳ nil))
+  pub complete_form : (t : Tree) (c : Correctness) → allowed segwit t ≡ true → type_of segwit t ≡ Ok c → is_w c.base ≡ false
+      → (u : Tree) × (type_of segwit u ≡ Ok c) × (row_form u ≡ true) × (row_form t ≡ true → u ≡ t) × runs.Reach segwit (begin (reverse_aux (written t) [])) (goes_on [] [] (u ⊳ nil))
   unfolding begin written
   complete_form t c g e w =
-      let p0 : Par t (Is c) = rw e at (parse t g) in
+      let p0 : Par t (Ok c) = rw e at (parse t g) in
       let p : Parsed t c = no_w_of (is_w c.base) t c w p0 in
       let k : Canon t c = canon t c p in
       let reads : reverse_aux (written t) [] ≡ tree_read k.x [] = tree_reversed t [] [] ∙ k.reads [] in
       (k.x, k.typed, k.form, k.kept, rw reads (k.runs [] [] nil refl))
 
   -- so its and_v chains are nested to the left
-  pub complete : (t : Tree) (c : Correctness) → allowed segwit t ≡ true → type_of segwit t ≡ Is c → is_w c.base ≡ false
-      → (u : Tree) × (type_of segwit u ≡ Is c) × (left_nested u ≡ true) × runs.Reach segwit (begin (reverse_aux (written t) [])) (goes_on [] [] (u ⊳ nil))
+  pub complete : (t : Tree) (c : Correctness) → allowed segwit t ≡ true → type_of segwit t ≡ Ok c → is_w c.base ≡ false
+      → (u : Tree) × (type_of segwit u ≡ Ok c) × (left_nested u ≡ true) × runs.Reach segwit (begin (reverse_aux (written t) [])) (goes_on [] [] (u ⊳ nil))
   complete t c g e w = let k = complete_form t c g e w in (k.0, k.1, left_true (left_nested k.0) (floated_out k.0) k.2, k.4)

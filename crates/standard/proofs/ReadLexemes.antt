@@ -7,7 +7,7 @@ use native.Mathlib.Omega.{arith}
 use Rattle.std.proofs.Math.ListN.{length}
 use Rattle.base_input.specs.declared.Base.TheVariants as base
 use Rattle.correctness.specs.declared.Correctness.{Correctness}
-use Rattle.correctness.specs.declared.Typed.TheVariants.{Is}
+use Rattle.std.specs.Prelude.{Ok}
 use Rattle.base_input.specs.Tests.{is_w}
 use Rattle.base_input.specs.TestLaws.{only_b}
 use Rattle.lex.specs.Token.{Lexeme}
@@ -33,7 +33,7 @@ module _ (segwit : Bool) where
       let h : Ends segwit lexemes (accepted t) = rw e at (decode_ends segwit limits lexemes) in
       (h.0, (h.1.0.0, (h.1.1.0, h.1.1.1, only_b h.1.1.0.base h.1.1.2)))
 
-  top_accepted : (u : Tree) (c : Correctness) → type_of segwit u ≡ Is c → c.base ≡ base.B → top_is u (type_of segwit u) ≡ accepted u
+  top_accepted : (u : Tree) (c : Correctness) → type_of segwit u ≡ Ok c → c.base ≡ base.B → top_is u (type_of segwit u) ≡ accepted u
   top_accepted u c e b = rw (e, b)
 
   -- the tree that a written tree's lexemes are read to

@@ -12,8 +12,8 @@ use Rattle.base_input.specs.declared.Base.TheVariants.{B, K, «V», W}
 use Rattle.base_input.specs.declared.Input.{Input}
 use Rattle.correctness.specs.declared.Correctness.{Correctness}
 use Rattle.correctness.specs.declared.ErrorKind.{ErrorKind}
-use Rattle.correctness.specs.declared.Typed.{Typed}
-use Rattle.correctness.specs.declared.Typed.TheVariants.{Is, Not}
+use Rattle.correctness.specs.Typed.{Typed}
+use Rattle.std.specs.Prelude.{Ok, Err}
 use Rattle.base_input.specs.Tests.{is_b, is_k, is_v, is_w, equal_bkv, is_zero, takes_one, top_non_zero}
 use Rattle.correctness.specs.AndVLaws as laws
 use Rattle.correctness.specs.Rules.{check, is, given, onward, cast_alt, cast_swap, cast_check, cast_dupif, cast_verify, cast_nonzero, cast_zeronotequal, and_b, and_v, or_b, or_d, or_c, or_i, and_or, threshold_child, threshold_from, threshold, no_children, leaf_type}
@@ -30,24 +30,24 @@ use Rattle.standard.specs.Types.{wrapper_rule, combination_rule, typed_leaf}
 pub within_range : (least n most : ℕ) → within least n most ≡ true → (least ≤ n) × (n ≤ most)
 within_range least n most e = (leb-true least n (left_true (leb least n) (leb n most) e), leb-true n most (right_true (leb least n) (leb n most) e))
 
-refused_not : {A : Type 0} (x : ErrorKind) (r : Correctness) → Not x ≡ Is r → A
+refused_not : {A : Type 0} (x : ErrorKind) (r : Correctness) → Err x ≡ Ok r → A
 refused_not x r e = let z : ◌≡◌ {A = ℕ} 0 1 = cc in let b : ⊥ = omega arith in absurd b
 
-pub checked : (b : Bool) (x : ErrorKind) (o : Typed) (r : Correctness) → check b x o ≡ Is r → (b ≡ true) × (o ≡ Is r)
+pub checked : (b : Bool) (x : ErrorKind) (o : Typed) (r : Correctness) → check b x o ≡ Ok r → (b ≡ true) × (o ≡ Ok r)
 checked true x o r e = (refl, e)
 checked false x o r e = refused_not x r e
 
-pub onward_is : (o : Typed) (f : Correctness → Typed) (r : Correctness) → onward o f ≡ Is r → (c : Correctness) × (o ≡ Is c) × (f c ≡ Is r)
-onward_is (Is c) f r e = (c, refl, e)
-onward_is (Not x) f r e = refused_not x r e
+pub onward_is : (o : Typed) (f : Correctness → Typed) (r : Correctness) → onward o f ≡ Ok r → (c : Correctness) × (o ≡ Ok c) × (f c ≡ Ok r)
+onward_is (Ok c) f r e = (c, refl, e)
+onward_is (Err x) f r e = refused_not x r e
 
 abbrev correct : Base → Input → Bool → Bool → Correctness
 correct b i d u = record { base = b; input = i; dissatisfiable = d; unit = u }
 
-made : (b : Base) (i : Input) (d u : Bool) (r : Correctness) → is b i d u ≡ Is r → r ≡ correct b i d u
+made : (b : Base) (i : Input) (d u : Bool) (r : Correctness) → is b i d u ≡ Ok r → r ≡ correct b i d u
 made b i d u r e = cc
 
-made_base : (b : Base) (i : Input) (d u : Bool) (r : Correctness) → is b i d u ≡ Is r → is_w r.base ≡ is_w b
+made_base : (b : Base) (i : Input) (d u : Bool) (r : Correctness) → is b i d u ≡ Ok r → is_w r.base ≡ is_w b
 made_base b i d u r e = rw (made b i d u r e)
 
 b_not_w : (b : Base) → is_b b ≡ true → is_w b ≡ false
@@ -101,7 +101,7 @@ takes_w tree.or_d = false
 takes_w tree.or_c = false
 takes_w tree.or_i = false
 
-pub wrapper_bases : (segwit : Bool) (w : Wrapper) (c r : Correctness) → wrapper_rule segwit w c ≡ Is r → (is_w c.base ≡ false) × (is_w r.base ≡ gives_w w)
+pub wrapper_bases : (segwit : Bool) (w : Wrapper) (c r : Correctness) → wrapper_rule segwit w c ≡ Ok r → (is_w c.base ≡ false) × (is_w r.base ≡ gives_w w)
 unfolding cast_alt cast_swap cast_check cast_dupif cast_verify cast_nonzero cast_zeronotequal
 wrapper_bases segwit tree.alt c r e = let h = checked (is_b c.base) _ _ r e in (b_not_w c.base h.0, made_base _ _ _ _ r h.1)
 wrapper_bases segwit tree.swap c r e =
@@ -120,7 +120,7 @@ wrapper_bases segwit tree.nonZero c r e =
     (b_not_w c.base g.0, made_base _ _ _ _ r g.1)
 wrapper_bases segwit tree.zeroNotEqual c r e = let h = checked (is_b c.base) _ _ r e in (b_not_w c.base h.0, made_base _ _ _ _ r h.1)
 
-pub combination_bases : (k : Combination) (a b r : Correctness) → combination_rule k a b ≡ Is r → (is_w a.base ≡ false) × ((is_w b.base ≡ takes_w k) × (is_w r.base ≡ false))
+pub combination_bases : (k : Combination) (a b r : Correctness) → combination_rule k a b ≡ Ok r → (is_w a.base ≡ false) × ((is_w b.base ≡ takes_w k) × (is_w r.base ≡ false))
 unfolding and_b and_v or_b or_d or_c or_i
 combination_bases tree.and_v a b r e =
     let h = checked (is_v a.base && not (is_w b.base)) _ _ r e in
@@ -149,7 +149,7 @@ combination_bases tree.or_i a b r e =
     let w = equal_not_w a.base b.base h.0 in
     (w.0, (w.1, made_base _ _ _ _ r h.1 ∙ w.0))
 
-pub and_or_bases : (a b c r : Correctness) → and_or a b c ≡ Is r → (is_w a.base ≡ false) × ((is_w b.base ≡ false) × ((is_w c.base ≡ false) × (is_w r.base ≡ false)))
+pub and_or_bases : (a b c r : Correctness) → and_or a b c ≡ Ok r → (is_w a.base ≡ false) × ((is_w b.base ≡ false) × ((is_w c.base ≡ false) × (is_w r.base ≡ false)))
 unfolding and_or
 and_or_bases a b c r e =
     let f = checked a.dissatisfiable _ _ r e in
@@ -166,7 +166,7 @@ AllW (c ∷ cs) = (is_w c.base ≡ true) × AllW cs
 next_child : (i : ℕ) → eqb (i + 1) 0 ≡ false
 next_child i = ne_eqb (i + 1) 0 (λ e. let e' : i + 1 ≡ 0 = e in omega arith)
 
-further_child : (i : ℕ) (so_far c r : Correctness) → eqb i 0 ≡ false → threshold_child i so_far c ≡ Is r → (is_w c.base ≡ true) × (is_w r.base ≡ false)
+further_child : (i : ℕ) (so_far c r : Correctness) → eqb i 0 ≡ false → threshold_child i so_far c ≡ Ok r → (is_w c.base ≡ true) × (is_w r.base ≡ false)
 unfolding threshold_child
 further_child i so_far c r n e =
     let f = checked (pick (eqb i 0) (is_b c.base) (is_w c.base)) _ _ r e in
@@ -174,7 +174,7 @@ further_child i so_far c r n e =
     let h = checked c.dissatisfiable _ _ r g.1 in
     (rw n at f.0, made_base _ _ _ _ r h.1)
 
-first_child : (so_far c r : Correctness) → threshold_child 0 so_far c ≡ Is r → (is_w c.base ≡ false) × ((c.dissatisfiable ≡ true) × (is_w r.base ≡ false))
+first_child : (so_far c r : Correctness) → threshold_child 0 so_far c ≡ Ok r → (is_w c.base ≡ false) × ((c.dissatisfiable ≡ true) × (is_w r.base ≡ false))
 unfolding threshold_child
 first_child so_far c r e =
     let f = checked (is_b c.base) _ _ r e in
@@ -182,7 +182,7 @@ first_child so_far c r e =
     let h = checked c.dissatisfiable _ _ r g.1 in
     (b_not_w c.base f.0, (h.0, made_base _ _ _ _ r h.1))
 
-further_children : (i : ℕ) (so_far : Correctness) (cs : List Correctness) (r : Correctness) → eqb i 0 ≡ false → is_w so_far.base ≡ false → threshold_from i so_far cs ≡ Is r → AllW cs × (is_w r.base ≡ false)
+further_children : (i : ℕ) (so_far : Correctness) (cs : List Correctness) (r : Correctness) → eqb i 0 ≡ false → is_w so_far.base ≡ false → threshold_from i so_far cs ≡ Ok r → AllW cs × (is_w r.base ≡ false)
 further_children i so_far [] r n w e = let q : so_far ≡ r = cc in (tt, rw q at w)
 further_children i so_far (c ∷ cs) r n w e =
     let h = onward_is (threshold_child i so_far c) (λ next. threshold_from (i + 1) next cs) r e in
@@ -191,7 +191,7 @@ further_children i so_far (c ∷ cs) r n w e =
     ((f.0, g.0), g.1)
 
 -- a thresh's first child is no W and dissatisfiable (2.), each other is W, and the thresh is none
-pub threshold_bases : (c : Correctness) (cs : List Correctness) (r : Correctness) → threshold (c ∷ cs) ≡ Is r → (is_w c.base ≡ false) × ((c.dissatisfiable ≡ true) × (AllW cs × (is_w r.base ≡ false)))
+pub threshold_bases : (c : Correctness) (cs : List Correctness) (r : Correctness) → threshold (c ∷ cs) ≡ Ok r → (is_w c.base ≡ false) × ((c.dissatisfiable ≡ true) × (AllW cs × (is_w r.base ≡ false)))
 unfolding threshold
 threshold_bases c cs r e =
     let h = onward_is (threshold_child 0 no_children c) (λ next. threshold_from (0 + 1) next cs) r e in
@@ -220,7 +220,7 @@ first_dissatisfiable tree.or_d = true
 first_dissatisfiable tree.or_c = true
 first_dissatisfiable tree.or_i = false
 
-pub first_dissatisfiable_lem : (k : Combination) (a b r : Correctness) → combination_rule k a b ≡ Is r → first_dissatisfiable k ≡ true → a.dissatisfiable ≡ true
+pub first_dissatisfiable_lem : (k : Combination) (a b r : Correctness) → combination_rule k a b ≡ Ok r → first_dissatisfiable k ≡ true → a.dissatisfiable ≡ true
 unfolding or_b or_d or_c
 first_dissatisfiable_lem tree.and_v a b r e h = absurd (true≢false (sym h))
 first_dissatisfiable_lem tree.and_b a b r e h = absurd (true≢false (sym h))
@@ -229,32 +229,32 @@ first_dissatisfiable_lem tree.or_d a b r e h = (checked a.dissatisfiable _ _ r e
 first_dissatisfiable_lem tree.or_c a b r e h = (checked a.dissatisfiable _ _ r e).0
 first_dissatisfiable_lem tree.or_i a b r e h = absurd (true≢false (sym h))
 
-pub and_or_dissatisfiable : (a b c r : Correctness) → and_or a b c ≡ Is r → a.dissatisfiable ≡ true
+pub and_or_dissatisfiable : (a b c r : Correctness) → and_or a b c ≡ Ok r → a.dissatisfiable ≡ true
 unfolding and_or
 and_or_dissatisfiable a b c r e = (checked a.dissatisfiable _ _ r e).0
 
 -- 4. and_v is associative: a law of `correctness`, read from the right-nested chain to the left-nested one
 
-given_is : (o : Typed) (r : Correctness) → given o ≡ some r → o ≡ Is r
-given_is (Is c) r e = let h : c ≡ r = cc in ap (λ (x : Correctness). Is x) h
-given_is (Not x) r e = let z : ◌≡◌ {A = ℕ} 0 1 = cc in let b : ⊥ = omega arith in absurd b
+given_is : (o : Typed) (r : Correctness) → given o ≡ some r → o ≡ Ok r
+given_is (Ok c) r e = let h : c ≡ r = cc in ap (λ (x : Correctness). Ok x) h
+given_is (Err x) r e = let z : ◌≡◌ {A = ℕ} 0 1 = cc in let b : ⊥ = omega arith in absurd b
 
-given_onward : (o : Typed) (f : Correctness → Typed) (r : Correctness) → given (onward o f) ≡ some r → (c : Correctness) × (o ≡ Is c) × (f c ≡ Is r)
-given_onward (Is c) f r e = (c, refl, given_is (f c) r e)
-given_onward (Not x) f r e = let z : ◌≡◌ {A = ℕ} 0 1 = cc in let b : ⊥ = omega arith in absurd b
+given_onward : (o : Typed) (f : Correctness → Typed) (r : Correctness) → given (onward o f) ≡ some r → (c : Correctness) × (o ≡ Ok c) × (f c ≡ Ok r)
+given_onward (Ok c) f r e = (c, refl, given_is (f c) r e)
+given_onward (Err x) f r e = let z : ◌≡◌ {A = ℕ} 0 1 = cc in let b : ⊥ = omega arith in absurd b
 
 -- a type that is given one way is given the other way
-commuted : (o q : Typed) (f g : Correctness → Typed) → given (onward o f) ≡ given (onward q g) → (y r : Correctness) → q ≡ Is y → g y ≡ Is r → (w : Correctness) × (o ≡ Is w) × (f w ≡ Is r)
+commuted : (o q : Typed) (f g : Correctness → Typed) → given (onward o f) ≡ given (onward q g) → (y r : Correctness) → q ≡ Ok y → g y ≡ Ok r → (w : Correctness) × (o ≡ Ok w) × (f w ≡ Ok r)
 commuted o q f g law y r e h = given_onward o f r (law ∙ rw (e, h))
 
-pub and_v_associative : (a v x y r : Correctness) → and_v v x ≡ Is y → and_v a y ≡ Is r → (w : Correctness) × (and_v a v ≡ Is w) × (and_v w x ≡ Is r)
+pub and_v_associative : (a v x y r : Correctness) → and_v v x ≡ Ok y → and_v a y ≡ Ok r → (w : Correctness) × (and_v a v ≡ Ok w) × (and_v w x ≡ Ok r)
 and_v_associative a v x y r e f = commuted (and_v a v) (and_v v x) (λ w. and_v w x) (λ z. and_v a z) (laws.and_v_associates a v x) y r e f
 
 -- 5. What an and_v floats out of, with the same type: laws of `correctness`
 
 -- c:, v: and n:
-pub wrapper_floats : (segwit : Bool) (w : Wrapper) → floats w ≡ true → (v x y r : Correctness) → and_v v x ≡ Is y → wrapper_rule segwit w y ≡ Is r
-    → (z : Correctness) × (wrapper_rule segwit w x ≡ Is z) × (and_v v z ≡ Is r)
+pub wrapper_floats : (segwit : Bool) (w : Wrapper) → floats w ≡ true → (v x y r : Correctness) → and_v v x ≡ Ok y → wrapper_rule segwit w y ≡ Ok r
+    → (z : Correctness) × (wrapper_rule segwit w x ≡ Ok z) × (and_v v z ≡ Ok r)
 wrapper_floats segwit tree.alt n v x y r e f = absurd (true≢false (sym n))
 wrapper_floats segwit tree.swap n v x y r e f = absurd (true≢false (sym n))
 wrapper_floats segwit tree.check n v x y r e f = commuted (cast_check x) (and_v v x) (λ z. and_v v z) cast_check (sym (laws.and_v_commutes cast_check laws.check_keeps v x)) y r e f
@@ -263,5 +263,5 @@ wrapper_floats segwit tree.verify n v x y r e f = commuted (cast_verify x) (and_
 wrapper_floats segwit tree.nonZero n v x y r e f = absurd (true≢false (sym n))
 wrapper_floats segwit tree.zeroNotEqual n v x y r e f = commuted (cast_zeronotequal x) (and_v v x) (λ z. and_v v z) cast_zeronotequal (sym (laws.and_v_commutes cast_zeronotequal laws.zeronotequal_keeps v x)) y r e f
 
-pub and_b_floats : (v x y b r : Correctness) → and_v v x ≡ Is y → and_b y b ≡ Is r → (z : Correctness) × (and_b x b ≡ Is z) × (and_v v z ≡ Is r)
+pub and_b_floats : (v x y b r : Correctness) → and_v v x ≡ Ok y → and_b y b ≡ Ok r → (z : Correctness) × (and_b x b ≡ Ok z) × (and_v v z ≡ Ok r)
 and_b_floats v x y b r e f = commuted (and_b x b) (and_v v x) (λ z. and_v v z) (λ z. and_b z b) (sym (laws.and_b_commutes v x b)) y r e f

@@ -5,8 +5,8 @@ use Rattle.std.proofs.Math.Path.{refl}
 use Rattle.std.proofs.Common.{ap, arith, eqb-true}
 use mathlib.Core.List.{List, [], ◌∷◌, ◌++◌, reverse_aux}
 use Rattle.correctness.specs.declared.Correctness.{Correctness}
-use Rattle.correctness.specs.declared.Typed.{Typed}
-use Rattle.correctness.specs.declared.Typed.TheVariants.{Is, Not}
+use Rattle.correctness.specs.Typed.{Typed}
+use Rattle.std.specs.Prelude.{Ok, Err}
 use Rattle.lex.specs.Token.{Data, Lexeme, op, num, push}
 use Rattle.lex.specs.Token.{EQUAL, NUMEQUAL, CHECKSIG, CHECKSIGADD, CHECKMULTISIG, CHECKSEQUENCEVERIFY, CHECKLOCKTIMEVERIFY, FROMALTSTACK, TOALTSTACK, DUP, IF, IFDUP, NOTIF, ELSE, ENDIF, ZERONOTEQUAL, SIZE, SWAP, VERIFY, HASH160, HASH20, BYTES32, BYTES33, BYTES65}
 use Rattle.tables.specs.Choose.{pick}
@@ -236,7 +236,7 @@ take_all (x ⊳ xs) under few onward = take_all xs under few (λ a b. onward (x 
 
 module _ (segwit : Bool) where
   abbrev pub Passed : Tree → Type 0
-  Passed t = (allowed segwit t ≡ true) × ((c : Correctness) × (type_of segwit t ≡ Is c))
+  Passed t = (allowed segwit t ≡ true) × ((c : Correctness) × (type_of segwit t ≡ Ok c))
 
   abbrev pub AllPassed : Trees → Type 0
   AllPassed nil = Unit {0}
@@ -254,9 +254,9 @@ module _ (segwit : Bool) where
   all_allowed_lem nil h = refl
   all_allowed_lem (t ⊳ ts) h = rw h.0.0 (all_allowed_lem ts h.1)
 
-  pub rule_passes : (o : Typed) → by_rule o ≡ passes → (c : Correctness) × (o ≡ Is c)
-  rule_passes (Is c) e = (c, refl)
-  rule_passes (Not x) e = let z : ◌≡◌ {A = ℕ} 0 1 = cc in let b : ⊥ = omega arith in absurd b
+  pub rule_passes : (o : Typed) → by_rule o ≡ passes → (c : Correctness) × (o ≡ Ok c)
+  rule_passes (Ok c) e = (c, refl)
+  rule_passes (Err x) e = let z : ◌≡◌ {A = ℕ} 0 1 = cc in let b : ⊥ = omega arith in absurd b
 
   if_passes : (b : Bool) (j : Judged) (n r : ℕ) → pick b j (fails n r) ≡ passes → (b ≡ true) × (j ≡ passes)
   if_passes true j n r e = (refl, e)
@@ -278,8 +278,8 @@ module _ (segwit : Bool) where
   Known (fails n r) = within 9 n 14 ≡ true
 
   rule_known : (o : Typed) → Known (by_rule o)
-  rule_known (Is c) = tt
-  rule_known (Not e) = refl
+  rule_known (Ok c) = tt
+  rule_known (Err e) = refl
 
   if_known : (b : Bool) (j : Judged) (n r : ℕ) → Known j → within 9 n 14 ≡ true → Known (pick b j (fails n r))
   if_known true j n r h e = h

@@ -8,7 +8,7 @@ use Rattle.std.proofs.Math.Option.{none, some}
 use Prim.Native.Nat.{ℕ, suc, ◌+◌}
 use Rattle.std.proofs.Math.Seq.{take-append_seam, drop-append_seam}
 use borrow.Author.Tests.{eqb-true}
-use Rattle.correctness.specs.declared.Typed.{Typed}
+use Rattle.correctness.specs.Typed.{Typed}
 use Rattle.tables.specs.Tables.{flat, Strided}
 use Rattle.lex.specs.Token.{Data, data_at, data_length, BYTES32, BYTES33}
 use Rattle.tables.proofs.BoolLaws.{left_true, right_true}

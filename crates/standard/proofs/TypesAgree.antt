@@ -4,8 +4,8 @@ use Rattle.std.specs.Prelude.{◌≡◌, refl, Bool, true, false, ◌&&◌, ◌|
 use Rattle.std.proofs.Common.{sym, ap, ◌∙◌, true≢false}
 use Rattle.std.proofs.Math.Option.{Option, none, some}
 use Rattle.correctness.specs.declared.Correctness.{Correctness}
-use Rattle.correctness.specs.declared.Typed.{Typed}
-use Rattle.correctness.specs.declared.Typed.TheVariants.{Is, Not}
+use Rattle.correctness.specs.Typed.{Typed}
+use Rattle.std.specs.Prelude.{Ok, Err}
 use Rattle.correctness.specs.Rules as rules
 use Rattle.correctness.specs.Rules.{given, onward}
 use Rattle.correctness.specs.Sanity.{Sound, SoundAnswer}
@@ -49,19 +49,19 @@ combination_sound or_c a b p q = or_c_sound a b
 combination_sound or_i a b p q = or_i_sound a b p q
 
 one_sound : (segwit : Bool) (w : Wrapper) (o : Typed) → SoundAnswer (onward o (wrapper_rule segwit w))
-one_sound segwit w (Is c) = wrapper_sound segwit w c
-one_sound segwit w (Not e) = tt
+one_sound segwit w (Ok c) = wrapper_sound segwit w c
+one_sound segwit w (Err e) = tt
 
 two_sound : (k : Combination) (o q : Typed) → SoundAnswer o → SoundAnswer q → SoundAnswer (onward o (λ a. onward q (λ b. combination_rule k a b)))
-two_sound k (Is a) (Is b) p s = combination_sound k a b p s
-two_sound k (Is a) (Not e) p s = tt
-two_sound k (Not e) q p s = tt
+two_sound k (Ok a) (Ok b) p s = combination_sound k a b p s
+two_sound k (Ok a) (Err e) p s = tt
+two_sound k (Err e) q p s = tt
 
 three_sound : (o q s : Typed) → SoundAnswer q → SoundAnswer s → SoundAnswer (onward o (λ a. onward q (λ b. onward s (λ c. rules.and_or a b c))))
-three_sound (Is a) (Is b) (Is c) p r = and_or_sound a b c p r
-three_sound (Is a) (Is b) (Not e) p r = tt
-three_sound (Is a) (Not e) s p r = tt
-three_sound (Not e) q s p r = tt
+three_sound (Ok a) (Ok b) (Ok c) p r = and_or_sound a b c p r
+three_sound (Ok a) (Ok b) (Err e) p r = tt
+three_sound (Ok a) (Err e) s p r = tt
+three_sound (Err e) q s p r = tt
 
 many_sound : (q : AllTyped) → SoundAnswer (ruled q rules.threshold)
 many_sound (all cs) = threshold_sound cs
@@ -99,33 +99,33 @@ combination_agrees or_c a b = or_c_agrees a b
 combination_agrees or_i a b = or_i_agrees a b
 
 one_agrees : (segwit : Bool) (w : Wrapper) → (segwit || not (is_dup_if w)) ≡ true → (o : Typed) → SoundAnswer o → letters_of (onward o (wrapper_rule segwit w)) ≡ having (letters_of o) (bip_wrapper segwit w)
-one_agrees segwit w g (Is c) s = wrapper_agrees segwit w g c s
-one_agrees segwit w g (Not e) s = refl
+one_agrees segwit w g (Ok c) s = wrapper_agrees segwit w g c s
+one_agrees segwit w g (Err e) s = refl
 
 two_agrees : (k : Combination) (o q : Typed) → letters_of (onward o (λ a. onward q (λ b. combination_rule k a b))) ≡ having (letters_of o) (λ a. having (letters_of q) (λ b. bip_combination k a b))
-two_agrees k (Is a) (Is b) = combination_agrees k a b
-two_agrees k (Is a) (Not e) = refl
-two_agrees k (Not e) q = refl
+two_agrees k (Ok a) (Ok b) = combination_agrees k a b
+two_agrees k (Ok a) (Err e) = refl
+two_agrees k (Err e) q = refl
 
 three_agrees : (o q s : Typed) → letters_of (onward o (λ a. onward q (λ b. onward s (λ c. rules.and_or a b c)))) ≡ having (letters_of o) (λ a. having (letters_of q) (λ b. having (letters_of s) (λ c. andor_row a b c)))
-three_agrees (Is a) (Is b) (Is c) = and_or_agrees a b c
-three_agrees (Is a) (Is b) (Not e) = refl
-three_agrees (Is a) (Not e) s = refl
-three_agrees (Not e) q s = refl
+three_agrees (Ok a) (Ok b) (Ok c) = and_or_agrees a b c
+three_agrees (Ok a) (Ok b) (Err e) = refl
+three_agrees (Ok a) (Err e) s = refl
+three_agrees (Err e) q s = refl
 
 abbrev all_letters : AllTyped → Option (List Letters)
 all_letters (all cs) = some (map letters cs)
 all_letters (not_all e) = none
 
 many_agree : (o : Typed) (q : AllTyped) → letters_of (ruled (and_then o q) rules.threshold) ≡ having (letters_of o) (λ a. having (all_letters q) (λ others. threshold_row a others))
-many_agree (Is a) (all cs) = threshold_agrees a cs
-many_agree (Is a) (not_all e) = refl
-many_agree (Not e) q = refl
+many_agree (Ok a) (all cs) = threshold_agrees a cs
+many_agree (Ok a) (not_all e) = refl
+many_agree (Err e) q = refl
 
 next_agrees : (o : Typed) (q : AllTyped) → all_letters (and_then o q) ≡ having_both (letters_of o) (all_letters q)
-next_agrees (Is a) (all cs) = refl
-next_agrees (Is a) (not_all e) = refl
-next_agrees (Not e) q = refl
+next_agrees (Ok a) (all cs) = refl
+next_agrees (Ok a) (not_all e) = refl
+next_agrees (Err e) q = refl
 
 mutual
   -- 01's type is BIP 379's wherever 01 follows it
@@ -169,5 +169,5 @@ pub dup_if_in_tapscript : (x : Tree) → follows false x ≡ true → bip_type f
 dup_if_in_tapscript x g = rw (← types_agree false x g) (of (type_of false x))
   where
     of : (o : Typed) → having (letters_of o) (bip_wrapper false dupIf) ≡ with_u (letters_of (onward o rules.cast_dupif))
-    of (Is c) = dupif_in_tapscript c
-    of (Not e) = refl
+    of (Ok c) = dupif_in_tapscript c
+    of (Err e) = refl

@@ -1,8 +1,8 @@
 -- A run of the rows (document 01, "Tokens to tree" and "When the desk says no", numbers 9 to 19): one step takes one entry off the work list and carries its row out on the finished trees; then what was made must fit into the tables.
 use Rattle.std.specs.Prelude.{Bool, ℕ, zero, suc, ◌+◌, ◌*◌, leb, length}
 use mathlib.Core.List.{List, [], ◌∷◌, ◌++◌, reverse_aux}
-use Rattle.correctness.specs.declared.Typed.{Typed}
-use Rattle.correctness.specs.declared.Typed.TheVariants.{Is, Not}
+use Rattle.correctness.specs.Typed.{Typed}
+use Rattle.std.specs.Prelude.{Ok, Err}
 use Rattle.base_input.specs.Tests.{is_b}
 use Rattle.lex.specs.Token.{Lexeme}
 use Rattle.tables.specs.Choose.{pick}
@@ -131,8 +131,8 @@ ends steps verdict = record { steps = steps; verdict = verdict }
 
 -- "top base is not B": 19
 abbrev pub top_is : Tree → Typed → Verdict
-top_is t (Is c) = pick (is_b c.base) (accepted t) (refused (refusal 19 0 []))
-top_is t (Not e) = refused never
+top_is t (Ok c) = pick (is_b c.base) (accepted t) (refused (refusal 19 0 []))
+top_is t (Err e) = refused never
 
 -- the work list is empty: "tokens left over" is 18, at the next token
 abbrev pub closes : Bool → List Lexeme → Trees → Verdict

@@ -1,7 +1,7 @@
 -- What the theorems of proofs/ speak of, beside the definitions of the other files: room that is ample (document 01, "When the desk says no"), a tree that is written with tokens, what is accepted and what is handed out, the refusals for want of room, and where 01's types follow BIP 379's.
 use Rattle.std.specs.Prelude.{◌≡◌, Bool, true, false, ◌&&◌, ◌||◌, not, List, map, ℕ, ◌+◌, ◌*◌, ◌≤◌, eqb}
 use Rattle.std.proofs.Math.Option.{Option}
-use Rattle.correctness.specs.declared.Typed.{Typed}
+use Rattle.correctness.specs.Typed.{Typed}
 use Rattle.correctness.specs.Rules.{given}
 use Rattle.correctness.specs.Bip379.{Letters, letters_given}
 use Rattle.lex.specs.Token.{Token, Lexeme, lexeme, bare}

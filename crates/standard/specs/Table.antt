@@ -1,8 +1,8 @@
 -- The node table and the key table of a tree and of the finished trees: document 01, "Tokens to tree" ("A node holds ..", "Nodes stand in order of completion", "A multi's keys stand in script order in the key table, as offsets"). And a tree read back off the two tables and the script.
 use Rattle.std.specs.Prelude.{◌≡◌, Bool, true, false, List, [], ◌∷◌, ◌++◌, ℕ, zero, suc, ◌+◌, ◌*◌, length, get_or, take, drop}
 use Rattle.std.proofs.Math.Option.{Option, none, some}
-use Rattle.correctness.specs.declared.Typed.{Typed}
-use Rattle.correctness.specs.declared.Typed.TheVariants.{Is, Not}
+use Rattle.correctness.specs.Typed.{Typed}
+use Rattle.std.specs.Prelude.{Ok, Err}
 use Rattle.base_input.specs.Numbers.{base_number, input_number, bool_number}
 use Rattle.lex.specs.Token.{Data, data_at, data_length, HASH20, BYTES32, BYTES33}
 use Rattle.tables.specs.Choose.{look}
@@ -46,20 +46,20 @@ node_at table i =
 
 -- the fields of a type; a finished tree always has one
 abbrev pub base_field : Typed → ℕ
-base_field (Is c) = base_number c.base
-base_field (Not e) = 0
+base_field (Ok c) = base_number c.base
+base_field (Err e) = 0
 
 abbrev pub input_field : Typed → ℕ
-input_field (Is c) = input_number c.input
-input_field (Not e) = 0
+input_field (Ok c) = input_number c.input
+input_field (Err e) = 0
 
 abbrev pub d_field : Typed → ℕ
-d_field (Is c) = bool_number c.dissatisfiable
-d_field (Not e) = 0
+d_field (Ok c) = bool_number c.dissatisfiable
+d_field (Err e) = 0
 
 abbrev pub u_field : Typed → ℕ
-u_field (Is c) = bool_number c.unit
-u_field (Not e) = 0
+u_field (Ok c) = bool_number c.unit
+u_field (Err e) = 0
 
 abbrev pub node : ℕ → ℕ → ℕ → ℕ → ℕ → Typed → Node
 node kind number count place size type =

@@ -5,8 +5,8 @@ use Rattle.base_input.specs.declared.Base.TheVariants as base
 use Rattle.correctness.specs.declared.Correctness.{Correctness}
 use Rattle.correctness.specs.declared.ErrorKind.{ErrorKind}
 use Rattle.correctness.specs.declared.Leaf.TheVariants as kind
-use Rattle.correctness.specs.declared.Typed.{Typed}
-use Rattle.correctness.specs.declared.Typed.TheVariants.{Is, Not}
+use Rattle.correctness.specs.Typed.{Typed}
+use Rattle.std.specs.Prelude.{Ok, Err}
 use Rattle.correctness.specs.Reasons.{reason_of}
 use Rattle.correctness.specs.Rules as rules
 use Rattle.correctness.specs.Rules.{onward}
@@ -52,18 +52,18 @@ pub data AllTyped : Type 0 where
   not_all : ErrorKind → AllTyped
 
 abbrev pub and_then : Typed → AllTyped → AllTyped
-and_then (Is c) (all cs) = all (c ∷ cs)
-and_then (Is c) (not_all e) = not_all e
-and_then (Not e) rest = not_all e
+and_then (Ok c) (all cs) = all (c ∷ cs)
+and_then (Ok c) (not_all e) = not_all e
+and_then (Err e) rest = not_all e
 
 abbrev pub ruled : AllTyped → (List Correctness → Typed) → Typed
 ruled (all cs) rule = rule cs
-ruled (not_all e) rule = Not e
+ruled (not_all e) rule = Err e
 
 -- 01's type of a tree, or the reason why it has none
 abbrev mutual
   pub type_of : Bool → Tree → Typed
-  type_of segwit (leaf l) = Is (rules.leaf_type (typed_leaf l))
+  type_of segwit (leaf l) = Ok (rules.leaf_type (typed_leaf l))
   type_of segwit (wrap w x) = onward (type_of segwit x) (wrapper_rule segwit w)
   type_of segwit (join c x y) = onward (type_of segwit x) (λ a. onward (type_of segwit y) (λ b. combination_rule c a b))
   type_of segwit (and_or x y z) = onward (type_of segwit x) (λ a. onward (type_of segwit y) (λ b. onward (type_of segwit z) (λ c. rules.and_or a b c)))
@@ -75,7 +75,7 @@ abbrev mutual
 
 -- a tree is well typed, with base B at its root
 abbrev pub WellTypedB : Bool → Tree → Type 0
-WellTypedB segwit t = (c : Correctness) × (type_of segwit t ≡ Is c) × (c.base ≡ base.B)
+WellTypedB segwit t = (c : Correctness) × (type_of segwit t ≡ Ok c) × (c.base ≡ base.B)
 
 -- what is said of a new node whose children have passed
 pub data Judged : Type 0 where
@@ -84,8 +84,8 @@ pub data Judged : Type 0 where
 
 -- 14 with the rule's reason
 abbrev pub by_rule : Typed → Judged
-by_rule (Is c) = passes
-by_rule (Not e) = fails 14 (reason_of e)
+by_rule (Ok c) = passes
+by_rule (Err e) = fails 14 (reason_of e)
 
 -- first the node's own values (11, 12, 13), then the rule of its kind (14)
 abbrev pub judge : Bool → Tree → Judged

@@ -3,8 +3,8 @@ use Rattle.std.specs.Prelude.{Bool, true, false, List, [], ◌∷◌, ℕ, zero,
 use Rattle.std.proofs.Math.Option.{Option, none, some}
 use Rattle.std.proofs.Common.{arith}
 use Rattle.base_input.specs.Tests.{is_b}
-use Rattle.correctness.specs.declared.Typed.{Typed}
-use Rattle.correctness.specs.declared.Typed.TheVariants.{Is, Not}
+use Rattle.correctness.specs.Typed.{Typed}
+use Rattle.std.specs.Prelude.{Ok, Err}
 use Rattle.tables.specs.Choose.{pick}
 use Rattle.standard.specs.Tree.{Tree, Trees, nil, ◌⊳◌}
 use Rattle.standard.specs.Types.{type_of}
@@ -25,12 +25,12 @@ FoundNumbered (refused number reason) = 1 ≤ number
 
 module _ (segwit : Bool) (material keys : List ℕ) where
   type_numbered : (n : Node) (ts : Trees) (o : Typed) → Numbered (type_checked n ts o)
-  type_numbered n ts (Is c) = by (holds_type n c)
+  type_numbered n ts (Ok c) = by (holds_type n c)
     where
       by : (b : Bool) → Numbered (pick b (finished ts) (checks.refused 14 13))
       by true = tt
       by false = omega arith
-  type_numbered n ts (Not e) = omega arith
+  type_numbered n ts (Err e) = omega arith
 
   newest_numbered : (n : Node) (o : Option Trees) → Numbered (newest_checked segwit n o)
   newest_numbered n none = omega arith
@@ -57,12 +57,12 @@ module _ (segwit : Bool) (material keys : List ℕ) where
   nodes_numbered (n ∷ ns) ts = next_numbered (check_node segwit material keys n ts) (λ more. check_nodes segwit material keys ns more) (node_numbered n ts) (λ more. nodes_numbered ns more)
 
   top_numbered : (t : Tree) (o : Typed) → FoundNumbered (top_checked t o)
-  top_numbered t (Is c) = by (is_b c.base)
+  top_numbered t (Ok c) = by (is_b c.base)
     where
       by : (b : Bool) → FoundNumbered (pick b (found t) (refused 19 0))
       by true = tt
       by false = omega arith
-  top_numbered t (Not e) = omega arith
+  top_numbered t (Err e) = omega arith
 
   root_numbered : (odd : ℕ) (c : Checked) → Numbered c → FoundNumbered (root_checked segwit odd c)
   root_numbered odd (checks.refused number reason) h = h

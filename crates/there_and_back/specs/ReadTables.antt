@@ -14,8 +14,8 @@ use Rattle.base_input.specs.declared.Base.{Base}
 use Rattle.base_input.specs.Tests.{is_b}
 use Rattle.base_input.specs.Numbers.{base_number, input_number, bool_number}
 use Rattle.correctness.specs.declared.Correctness.{Correctness}
-use Rattle.correctness.specs.declared.Typed.{Typed}
-use Rattle.correctness.specs.declared.Typed.TheVariants.{Is, Not}
+use Rattle.correctness.specs.Typed.{Typed}
+use Rattle.std.specs.Prelude.{Ok, Err}
 use Rattle.correctness.specs.Rules as rules
 use Rattle.correctness.specs.Rules.{onward, leaf_type, threshold}
 use Rattle.lex.specs.Token.{Data, data_at, data_length, BYTES32, BYTES33}
@@ -41,7 +41,7 @@ use Rattle.encoding.proofs.Passed.{first_sizes}
 use Rattle.there_and_back.specs.Ranged.{DataIn, KeysIn, DatasIn, LeafIn, TreeIn, TreesIn}
 
 -- a node of a type holds it
-held : (kind number count place size : ℕ) (c : Correctness) → holds_type (node kind number count place size (Is c)) c ≡ true
+held : (kind number count place size : ℕ) (c : Correctness) → holds_type (node kind number count place size (Ok c)) c ≡ true
 held kind number count place size c =
     both_true (eq-eqb (base_number c.base) (base_number c.base) refl)
     (both_true (eq-eqb (input_number c.input) (input_number c.input) refl)
@@ -50,7 +50,7 @@ held kind number count place size c =
 module _ (segwit : Bool) (script keys : List ℕ) where
   -- what a node needs to pass
   node_checked : (n : Node) (ts us : Trees) (t : Tree) (c : Correctness) → well_formed segwit (length script) keys n ts ≡ true → value_refusal segwit script keys n ≡ 0
-      → add_node segwit script keys n ts ≡ some (t ⊳ us) → type_of segwit t ≡ Is c → holds_type n c ≡ true → check_node segwit script keys n ts ≡ finished (t ⊳ us)
+      → add_node segwit script keys n ts ≡ some (t ⊳ us) → type_of segwit t ≡ Ok c → holds_type n c ≡ true → check_node segwit script keys n ts ≡ finished (t ⊳ us)
   node_checked n ts us t c f v m y h = rw (f, v, m, y, h)
 
   formed : (s : Shape) (n : Node) (ts : Trees) → unused_are_zero s n ≡ true → in_range (length script) keys s n ≡ true → child_count s n ≤ many ts → n.size ≡ sizes_of_first (child_count s n) ts + 1
@@ -175,10 +175,10 @@ module _ (segwit : Bool) (script keys : List ℕ) where
       (both_true (left_true (multi_a_threshold k) _ g) (right_true (all_multi_a_keys segwit (d ∷ ds)) (leb k (suc (length ds)) && leb (suc (length ds)) 999) h))
 
   -- a node whose type is known holds it
-  holds : (kind number count place size : ℕ) (o : Typed) (c : Correctness) → o ≡ Is c → holds_type (node kind number count place size o) c ≡ true
+  holds : (kind number count place size : ℕ) (o : Typed) (c : Correctness) → o ≡ Ok c → holds_type (node kind number count place size o) c ≡ true
   holds kind number count place size o c e = ap (λ (x : Typed). holds_type (node kind number count place size x) c) e ∙ held kind number count place size c
 
-  leaf_holds : (l : Leaf) (before : ℕ) (c : Correctness) → holds_type (leaf_node l before (Is c)) c ≡ true
+  leaf_holds : (l : Leaf) (before : ℕ) (c : Correctness) → holds_type (leaf_node l before (Ok c)) c ≡ true
   leaf_holds True before c = held 1 0 0 0 1 c
   leaf_holds False before c = held 2 0 0 0 1 c
   leaf_holds (PkK (key code d)) before c = held 3 0 0 d.place 1 c
@@ -230,7 +230,7 @@ module _ (segwit : Bool) (script keys : List ℕ) where
   -- a parent: a node without place over its children
   parent_checked : (kind : ℕ) (terminal : Terminal) (s : Shape) (number count size : ℕ) (o : Typed) (c : Correctness) (ts us : Trees) (t : Tree) → terminal_of kind ≡ terminal → shape_of segwit terminal ≡ some s
       → formed_as (length script) keys (some s) (node kind number count 0 size o) ts ≡ true → value_refusal_of segwit script keys terminal (node kind number count 0 size o) ≡ 0
-      → add_node segwit script keys (node kind number count 0 size o) ts ≡ some (t ⊳ us) → type_of segwit t ≡ Is c → o ≡ Is c → check_node segwit script keys (node kind number count 0 size o) ts ≡ finished (t ⊳ us)
+      → add_node segwit script keys (node kind number count 0 size o) ts ≡ some (t ⊳ us) → type_of segwit t ≡ Ok c → o ≡ Ok c → check_node segwit script keys (node kind number count 0 size o) ts ≡ finished (t ⊳ us)
   unfolding well_formed value_refusal
   parent_checked kind _ s number count size o c ts us t k h f v m y e =
       let n : Node = node kind number count 0 size o in
@@ -240,28 +240,28 @@ module _ (segwit : Bool) (script keys : List ℕ) where
   in_range_no_place : leb (0 + 0) (length script) ≡ true
   in_range_no_place = le-leb (0 + 0) (length script) (omega arith)
 
-  wrap_checked : (w : Wrapper) (x : Tree) (ts : Trees) (c : Correctness) → type_of segwit (wrap w x) ≡ Is c
+  wrap_checked : (w : Wrapper) (x : Tree) (ts : Trees) (c : Correctness) → type_of segwit (wrap w x) ≡ Ok c
       → check_node segwit script keys (root_node segwit (wrap w x) 0) (x ⊳ ts) ≡ finished (wrap w x ⊳ ts)
   wrap_checked w x ts c y =
       let n : Node = root_node segwit (wrap w x) 0 in
       parent_checked (wrapper_kind w) (is_wrapper w) (shape false false 0 0 1) 0 0 (size (wrap w x)) (type_of segwit (wrap w x)) c (x ⊳ ts) ts (wrap w x) (wrapper_terminal w) refl
       (formed (shape false false 0 0 1) n (x ⊳ ts) refl in_range_no_place (omega arith) (omega arith)) refl (wrap_added segwit script keys w (size (wrap w x)) (type_of segwit (wrap w x)) x ts) y y
 
-  join_checked : (k : Combination) (x y : Tree) (ts : Trees) (c : Correctness) → type_of segwit (join k x y) ≡ Is c
+  join_checked : (k : Combination) (x y : Tree) (ts : Trees) (c : Correctness) → type_of segwit (join k x y) ≡ Ok c
       → check_node segwit script keys (root_node segwit (join k x y) 0) (x ⊳ (y ⊳ ts)) ≡ finished (join k x y ⊳ ts)
   join_checked k x y ts c e =
       let n : Node = root_node segwit (join k x y) 0 in
       parent_checked (combination_kind k) (is_combination k) (shape false false 0 0 2) 0 0 (size (join k x y)) (type_of segwit (join k x y)) c (x ⊳ (y ⊳ ts)) ts (join k x y) (combination_terminal k) refl
       (formed (shape false false 0 0 2) n (x ⊳ (y ⊳ ts)) refl in_range_no_place (omega arith) (omega arith)) refl (join_added segwit script keys k (size (join k x y)) (type_of segwit (join k x y)) x y ts) e e
 
-  and_or_checked : (x y z : Tree) (ts : Trees) (c : Correctness) → type_of segwit (and_or x y z) ≡ Is c
+  and_or_checked : (x y z : Tree) (ts : Trees) (c : Correctness) → type_of segwit (and_or x y z) ≡ Ok c
       → check_node segwit script keys (root_node segwit (and_or x y z) 0) (x ⊳ (z ⊳ (y ⊳ ts))) ≡ finished (and_or x y z ⊳ ts)
   and_or_checked x y z ts c e =
       let n : Node = root_node segwit (and_or x y z) 0 in
       parent_checked and_or_kind isAndOr (shape false false 0 0 3) 0 0 (size (and_or x y z)) (type_of segwit (and_or x y z)) c (x ⊳ (z ⊳ (y ⊳ ts))) ts (and_or x y z) and_or_terminal refl
       (formed (shape false false 0 0 3) n (x ⊳ (z ⊳ (y ⊳ ts))) refl in_range_no_place (omega arith) (omega arith)) refl (and_or_added segwit script keys (size (and_or x y z)) (type_of segwit (and_or x y z)) x y z ts) e e
 
-  thresh_checked : (k : ℕ) (x : Tree) (xs ts : Trees) (c : Correctness) → thresh_allowed k x xs ≡ true → type_of segwit (thresh k x xs) ≡ Is c
+  thresh_checked : (k : ℕ) (x : Tree) (xs ts : Trees) (c : Correctness) → thresh_allowed k x xs ≡ true → type_of segwit (thresh k x xs) ≡ Ok c
       → check_node segwit script keys (root_node segwit (thresh k x xs) 0) (x ⊳ (◌⊕◌ xs ts)) ≡ finished (thresh k x xs ⊳ ts)
   thresh_checked k x xs ts c g e =
       let n : Node = root_node segwit (thresh k x xs) 0 in
@@ -272,20 +272,20 @@ module _ (segwit : Bool) (script keys : List ℕ) where
   -- Every subtree of a well-typed tree has a type
 
   abbrev Typable : Tree → Type 0
-  Typable t = (c : Correctness) × (type_of segwit t ≡ Is c)
+  Typable t = (c : Correctness) × (type_of segwit t ≡ Ok c)
 
   abbrev AllTypable : Trees → Type 0
   AllTypable ts = (cs : List Correctness) × (types_of segwit ts ≡ all cs)
 
-  children_typable : (o : Typed) (a : AllTyped) (c : Correctness) → ruled (and_then o a) threshold ≡ Is c → ((d : Correctness) × (o ≡ Is d)) × ((cs : List Correctness) × (a ≡ all cs))
-  children_typable (Is d) (all cs) c e = ((d, refl), (cs, refl))
-  children_typable (Is d) (not_all x) c e = let z : ◌≡◌ {A = ℕ} 0 1 = cc in let no : ⊥ = omega arith in absurd no
-  children_typable (Not x) a c e = let z : ◌≡◌ {A = ℕ} 0 1 = cc in let no : ⊥ = omega arith in absurd no
+  children_typable : (o : Typed) (a : AllTyped) (c : Correctness) → ruled (and_then o a) threshold ≡ Ok c → ((d : Correctness) × (o ≡ Ok d)) × ((cs : List Correctness) × (a ≡ all cs))
+  children_typable (Ok d) (all cs) c e = ((d, refl), (cs, refl))
+  children_typable (Ok d) (not_all x) c e = let z : ◌≡◌ {A = ℕ} 0 1 = cc in let no : ⊥ = omega arith in absurd no
+  children_typable (Err x) a c e = let z : ◌≡◌ {A = ℕ} 0 1 = cc in let no : ⊥ = omega arith in absurd no
 
-  first_typable : (o : Typed) (a : AllTyped) (cs : List Correctness) → and_then o a ≡ all cs → ((d : Correctness) × (o ≡ Is d)) × ((ds : List Correctness) × (a ≡ all ds))
-  first_typable (Is d) (all ds) cs e = ((d, refl), (ds, refl))
-  first_typable (Is d) (not_all x) cs e = let z : ◌≡◌ {A = ℕ} 0 1 = cc in let no : ⊥ = omega arith in absurd no
-  first_typable (Not x) a cs e = let z : ◌≡◌ {A = ℕ} 0 1 = cc in let no : ⊥ = omega arith in absurd no
+  first_typable : (o : Typed) (a : AllTyped) (cs : List Correctness) → and_then o a ≡ all cs → ((d : Correctness) × (o ≡ Ok d)) × ((ds : List Correctness) × (a ≡ all ds))
+  first_typable (Ok d) (all ds) cs e = ((d, refl), (ds, refl))
+  first_typable (Ok d) (not_all x) cs e = let z : ◌≡◌ {A = ℕ} 0 1 = cc in let no : ⊥ = omega arith in absurd no
+  first_typable (Err x) a cs e = let z : ◌≡◌ {A = ℕ} 0 1 = cc in let no : ⊥ = omega arith in absurd no
 
   -- A tree's nodes, checked, leave the tree on the stack
 
