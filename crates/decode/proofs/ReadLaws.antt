@@ -12,8 +12,7 @@ use Rattle.tables.specs.Tables.{zeros, flat}
 use Rattle.tables.proofs.FlatLaws.{flat_length, strided_map}
 use Rattle.tables.proofs.PutLaws.{zeros_cell}
 use Rattle.instruction.specs.Code.{Bytes}
-use Rattle.lex.specs.declared.Answer as lex-answer
-use Rattle.lex.specs.declared.Answer.TheVariants as lexing
+use Rattle.std.specs.Prelude.{Ok, Err}
 use Rattle.lex.specs.Token.{Token, Lexeme, lexeme}
 use Rattle.lex.specs.Script.{script_limit, lex_of, answer_of, numbers, table_of, Lexes}
 use Rattle.lex.specs.Script as lex
@@ -78,7 +77,7 @@ within_limit room script ts e = by_test (leb (length script) script_limit) refl
     by_test true h = leb-true (length script) script_limit h
     by_test false h = let n : lex.tokens ts ≡ lex.refused 1 0 = sym e ∙ limit_passed room script h in let z : ◌≡◌ {A = ℕ} 0 1 = cc in let x : ⊥ = omega arith in absurd x
 
-module _ (script tokens : List ℕ) (count : ℕ) (lexes : Lexes script (length tokens) (lexing.Tokens count) tokens) where
+module _ (script tokens : List ℕ) (count : ℕ) (lexes : Lexes script (length tokens) (Ok count) tokens) where
   ts : List Token
   ts = (answered_tokens (length tokens / 3) count script lexes.0).0
 
@@ -214,7 +213,7 @@ module _ (kind : ℕ) (script tokens nodes keys work : List ℕ) where
   unfolding outcome_of
   known_kind h = rw (le-leb kind 1 h) refl
 
-  pub not_lexed : kind ≤ 1 → (number place : ℕ) (r : Answer) (t' n' k' w' : List ℕ) → Lexes script (length tokens) (lexing.Refused number place) t' → read.answer_of r ≡ refused_answer number 0 place 0 0 → n' ≡ zeros (length nodes) → k' ≡ zeros (length keys) → w' ≡ zeros (length work)
+  pub not_lexed : kind ≤ 1 → (number place : ℕ) (r : Answer) (t' n' k' w' : List ℕ) → Lexes script (length tokens) (Err (refusal number place)) t' → read.answer_of r ≡ refused_answer number 0 place 0 0 → n' ≡ zeros (length nodes) → k' ≡ zeros (length keys) → w' ≡ zeros (length work)
       → outcome_at r t' n' k' w' ≡ outcome_of kind script whole
   not_lexed h number place r t' n' k' w' l a n k w =
       let e : lex_of (length tokens / 3) script ≡ lex.refused number place = answered_refused (length tokens / 3) number place script l.0 in
@@ -226,8 +225,8 @@ module _ (kind : ℕ) (script tokens nodes keys work : List ℕ) where
   read_on_lem h o t' n' k' w' t n k w e = rw (t, n, k, w) at e ∙ sym (known_kind h)
 
 -- what the lexer has filled, told of the table itself
-pub lexes_here : (script t t' : List ℕ) (count : ℕ) {a : lex-answer.Answer} → Lexes script (length t) a t' → a ≡ lexing.Tokens count → length t' ≡ length t → Lexes script (length t') (lexing.Tokens count) t'
+pub lexes_here : (script t t' : List ℕ) (count : ℕ) {a : lex.Answer} → Lexes script (length t) a t' → a ≡ Ok count → length t' ≡ length t → Lexes script (length t') (Ok count) t'
 lexes_here script t t' count h e l = rw (l, ← e) h
 
-pub lexes_not : (script t t' : List ℕ) (number place : ℕ) {a : lex-answer.Answer} → Lexes script (length t) a t' → a ≡ lexing.Refused number place → Lexes script (length t) (lexing.Refused number place) t'
+pub lexes_not : (script t t' : List ℕ) (number place : ℕ) {a : lex.Answer} → Lexes script (length t) a t' → a ≡ Err (refusal number place) → Lexes script (length t) (Err (refusal number place)) t'
 lexes_not script t t' number place h e = rw (← e) h

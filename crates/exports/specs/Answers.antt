@@ -1,9 +1,8 @@
 -- The contracts of the exported entries: each is the contract of the function behind it (`decode::read`, `lex::lex`, `lex::room`), with the answer in a struct that C lays out too.
-use Rattle.std.specs.Prelude.{◌≡◌, List, ℕ, ◌/◌, length}
-use Rattle.lex.specs.declared.Ample.{Ample}
-use Rattle.lex.specs.declared.Ample.TheVariants as ample
+use Rattle.std.specs.Prelude.{◌≡◌, List, ℕ, ◌/◌, length, Ok, Err}
 use Rattle.lex.specs.Script as lex
 use Rattle.lex.specs.Script.{lex_of, table_of}
+use Rattle.lex.specs.Room.{Ample}
 use Rattle.standard.specs.Outcome as outcome
 use Rattle.standard.specs.Outcome.{Outcome}
 use Rattle.exports.specs.declared.Answer.{Answer}
@@ -38,5 +37,5 @@ Lexes script size r table = (r ≡ lexed_of (lex_of (size / 3) script)) × (tabl
 
 -- what `room` answers: after a refusal all sizes are 0
 abbrev pub room_in : Ample → Room
-room_in (ample.Sizes tokens nodes keys work) = record { number = 0; place = 0; tokens = tokens; nodes = nodes; keys = keys; work = work }
-room_in (ample.Refused number place) = record { number = number; place = place; tokens = 0; nodes = 0; keys = 0; work = 0 }
+room_in (Ok s) = record { number = 0; place = 0; tokens = s.tokens; nodes = s.nodes; keys = s.keys; work = s.work }
+room_in (Err e) = record { number = e.number; place = e.place; tokens = 0; nodes = 0; keys = 0; work = 0 }

@@ -13,10 +13,11 @@ use Rattle.tables.specs.Choose.{pick}
 use Rattle.tables.proofs.BoolLaws.{picked_both}
 use Rattle.instruction.specs.declared.Op.{Op}
 use Rattle.instruction.specs.declared.Op.TheVariants.{Push, Sized, Num, One, Fused, Verify, Unlisted}
-use Rattle.instruction.specs.declared.Number.{Number}
-use Rattle.instruction.specs.declared.Number.TheVariants.{Is, NotMinimal, Negative}
-use Rattle.instruction.specs.declared.Lexed.{Lexed}
+use Rattle.instruction.specs.declared.Error.{Error}
+use Rattle.instruction.specs.Error.{error_number, Lexing, Number}
 use Rattle.instruction.specs.declared.Lexed.TheVariants as gives
+use Rattle.std.specs.Prelude.{Ok, Err}
+use Rattle.instruction.specs.declared.Error.TheVariants as error
 use Rattle.instruction.specs.Code.{Bytes}
 use Rattle.instruction.specs.Opcode.{op_of, ranged}
 use Rattle.instruction.specs.Number.{little_endian, last_byte, minimal, number_of}
@@ -55,9 +56,8 @@ below (suc n) test e b h = split (λ l. below n test (picked_both (test n) (all_
 
 -- ---- numbers
 abbrev LowNumber : Number → Type 0
-LowNumber (Is v) = v < 2147483648
-LowNumber NotMinimal = Unit {0}
-LowNumber Negative = Unit {0}
+LowNumber (Ok v) = v < 2147483648
+LowNumber (Err e) = Unit {0}
 
 low_value : (d : List ℕ) → length d ≤ 4 → Bytes d → last_byte d < 128 → little_endian d < 2147483648
 low_value [] l b h = omega arith
@@ -67,7 +67,7 @@ low_value (x ∷ y ∷ z ∷ []) l b h = omega (arith, b 0, b 1)
 low_value (x ∷ y ∷ z ∷ w ∷ []) l b h = omega (arith, b 0, b 1, b 2)
 low_value (x ∷ y ∷ z ∷ w ∷ u ∷ rest) l b h = absurd (omega arith)
 
-low_pick : (m n : Bool) (v : ℕ) → (n ≡ false → v < 2147483648) → LowNumber (pick m (pick n Negative (Is v)) NotMinimal)
+low_pick : (m n : Bool) (v : ℕ) → (n ≡ false → v < 2147483648) → LowNumber (pick m (pick n (Err error.NegativeInt) (Ok v)) (Err error.InvalidInt))
 low_pick true true v h = tt
 low_pick true false v h = h refl
 low_pick false n v h = tt
@@ -77,18 +77,22 @@ unfolding number_of
 low_number d l b = low_pick (minimal d) (leb 128 (last_byte d)) (little_endian d) (λ e. low_value d l b (leb-false 128 (last_byte d) e))
 
 -- ---- one instruction
-abbrev pub Low : Lexed → Type 0
-Low (gives.One c n v) = (c ≤ 32) × (v < 2147483648)
-Low (gives.Two c n) = c ≤ 32
-Low (gives.Refused k) = (2 ≤ k) × (k ≤ 7)
+abbrev pub Low : Lexing → Type 0
+Low (Ok (gives.One c n v)) = (c ≤ 32) × (v < 2147483648)
+Low (Ok (gives.Two c n)) = c ≤ 32
+Low (Err e) = (2 ≤ error_number e) × (error_number e ≤ 7)
 
-refusal : (k : ℕ) → 2 ≤ k → k ≤ 7 → Low (gives.Refused k)
-refusal k a b = (a, b)
+low_error : (e : Error) → Low (Err e)
+low_error error.EarlyEndOfScript = (omega arith, omega arith)
+low_error error.NonMinimalPush = (omega arith, omega arith)
+low_error error.InvalidInt = (omega arith, omega arith)
+low_error error.NegativeInt = (omega arith, omega arith)
+low_error error.InvalidOpcode = (omega arith, omega arith)
+low_error error.NonMinimalVerify = (omega arith, omega arith)
 
 low_numbered : (all : ℕ) (v : Number) → LowNumber v → Low (numbered v all)
-low_numbered all (Is v) h = (omega arith, h)
-low_numbered all NotMinimal h = (omega arith, omega arith)
-low_numbered all Negative h = (omega arith, omega arith)
+low_numbered all (Ok v) h = (omega arith, h)
+low_numbered all (Err e) h = low_error e
 
 low_pushed : (d : List ℕ) (n all : ℕ) → length d ≡ n → Bytes d → Low (pushed d n all)
 unfolding pushed

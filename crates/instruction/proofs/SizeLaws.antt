@@ -9,28 +9,28 @@ use lib.ListN.{length, take, drop, get_or, length-drop}
 use lib.Dec.{leb, eqb, ltb}
 use Rattle.tables.specs.Choose.{pick}
 use Rattle.instruction.specs.declared.Op.{Op}
-use Rattle.instruction.specs.declared.Number.{Number}
-use Rattle.instruction.specs.declared.Lexed.{Lexed}
-use Rattle.instruction.specs.declared.Lexed.TheVariants.{One, Two, Refused}
+use Rattle.instruction.specs.Error.{Lexing, Number}
+use Rattle.instruction.specs.declared.Lexed.TheVariants.{One, Two}
+use Rattle.std.specs.Prelude.{Ok, Err}
+use Rattle.instruction.specs.declared.Error.TheVariants as error
 use Rattle.instruction.specs.Opcode.{op_of}
 use Rattle.instruction.specs.Number.{little_endian, number_of}
 use Rattle.instruction.specs.Push.{has_opcode, push_of, pushed, numbered, sized_of}
 use Rattle.instruction.specs.Instruction.{instruction_of, given, verify_refused}
 
 -- what holds of either choice holds of the choice
-pub either : (P : Lexed → Type 0) (b : Bool) (x y : Lexed) → (b ≡ true → P x) → (b ≡ false → P y) → P (pick b x y)
+pub either : (P : Lexing → Type 0) (b : Bool) (x y : Lexing) → (b ≡ true → P x) → (b ≡ false → P y) → P (pick b x y)
 either P true x y p q = p refl
 either P false x y p q = q refl
 
-abbrev pub Fits : ℕ → Lexed → Type 0
-Fits m (One c n v) = (1 ≤ n) × (n ≤ m)
-Fits m (Two c n) = (1 ≤ n) × (n ≤ m)
-Fits m (Refused k) = Unit {0}
+abbrev pub Fits : ℕ → Lexing → Type 0
+Fits m (Ok (One c n v)) = (1 ≤ n) × (n ≤ m)
+Fits m (Ok (Two c n)) = (1 ≤ n) × (n ≤ m)
+Fits m (Err k) = Unit {0}
 
 numbered_fits : (m all : ℕ) (v : Number) → 1 ≤ all → all ≤ m → Fits m (numbered v all)
-numbered_fits m all (Number.Is v) l h = (l, h)
-numbered_fits m all Number.NotMinimal l h = tt
-numbered_fits m all Number.Negative l h = tt
+numbered_fits m all (Ok v) l h = (l, h)
+numbered_fits m all (Err e) l h = tt
 
 pushed_fits : (m : ℕ) (d : List ℕ) (n all : ℕ) → 1 ≤ all → all ≤ m → Fits m (pushed d n all)
 unfolding pushed
@@ -70,14 +70,14 @@ unfolding instruction_of
 instruction_fits rest last h = given_fits rest last (op_of (get_or rest 0 0)) h
 
 -- the same, at a place of the whole script
-module _ (s : List ℕ) (at last : ℕ) (h : at < length s) {x : Lexed} (e : x ≡ instruction_of (drop at s) last) where
+module _ (s : List ℕ) (at last : ℕ) (h : at < length s) {x : Lexing} (e : x ≡ instruction_of (drop at s) last) where
   placed_fits : Fits (length s - at) x
   placed_fits =
       subst (Fits (length s - at)) (sym e)
       (subst (λ (m : ℕ). Fits m (instruction_of (drop at s) last)) (length-drop at s) (instruction_fits (drop at s) last (omega (arith, length-drop at s))))
 
-  pub one_fits : (c v n : ℕ) → x ≡ One c n v → (1 ≤ n) × (n ≤ length s - at)
+  pub one_fits : (c v n : ℕ) → x ≡ Ok (One c n v) → (1 ≤ n) × (n ≤ length s - at)
   one_fits c v n p = subst (Fits (length s - at)) p placed_fits
 
-  pub two_fits : (c n : ℕ) → x ≡ Two c n → (1 ≤ n) × (n ≤ length s - at)
+  pub two_fits : (c n : ℕ) → x ≡ Ok (Two c n) → (1 ≤ n) × (n ≤ length s - at)
   two_fits c n p = subst (Fits (length s - at)) p placed_fits

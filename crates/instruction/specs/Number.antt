@@ -1,8 +1,9 @@
 -- Script numbers: document 01, "Lengths 0 to 4 are script numbers, little-endian with a sign bit; a longer or non-minimal number is 4, whatever its sign, any other negative one 5".
 use Rattle.std.specs.Prelude.{Bool, true, false, List, [], ◌∷◌, ℕ, ◌+◌, ◌-◌, ◌*◌, ◌%◌, eqb, leb, length, get_or}
 use Rattle.tables.specs.Choose.{pick}
-use Rattle.instruction.specs.declared.Number.{Number}
-use Rattle.instruction.specs.declared.Number.TheVariants.{Is, NotMinimal, Negative}
+use Rattle.std.specs.Prelude.{Ok, Err}
+use Rattle.instruction.specs.Error.{Number}
+use Rattle.instruction.specs.declared.Error.TheVariants as error
 
 -- bytes as a number, the lowest first
 abbrev pub little_endian : List ℕ → ℕ
@@ -23,4 +24,4 @@ minimal bytes =
 
 -- the minimal test first, then the sign, then the value
 unfoldable pub number_of : List ℕ → Number
-number_of bytes = pick (minimal bytes) (pick (leb 128 (last_byte bytes)) Negative (Is (little_endian bytes))) NotMinimal
+number_of bytes = pick (minimal bytes) (pick (leb 128 (last_byte bytes)) (Err error.NegativeInt) (Ok (little_endian bytes))) (Err error.InvalidInt)

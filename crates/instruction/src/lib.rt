@@ -2,15 +2,48 @@
 #![tactic(auto)]
 
 ghost use Rattle.std.specs.Prelude.{◌≡◌, [], ◌+◌, ◌*◌, ◌≤◌, ◌<◌, length, take, drop, get_or};
+ghost use Rattle.instruction.specs.Error.{error_number};
 ghost use Rattle.instruction.specs.Opcode.{op_of};
 ghost use Rattle.instruction.specs.Number.{little_endian, minimal, number_of};
-ghost use Rattle.instruction.specs.Push.{small, has_opcode, numbered, pushed, push_of, sized_of};
+ghost use Rattle.instruction.specs.Push.{small, has_opcode, pushed, push_of, sized_of};
 ghost use Rattle.instruction.specs.Instruction.{verify_refused, given, instruction_of};
 
 pub mod token;
 
+// Why an instruction is refused, by the names that lex.rs and Bitcoin's own script errors have.
+#[derive(Clone, Copy, Debug, PartialEq, Eq)]
+pub enum Error {
+    // Bytes are missing.
+    EarlyEndOfScript,
+    // The push has a shorter form.
+    NonMinimalPush,
+    // A push of another length, or a number that is not minimal.
+    InvalidInt,
+    NegativeInt,
+    // An opcode that lex.rs doesn't list.
+    InvalidOpcode,
+    // A VERIFY that has a fused form with the opcode before it.
+    NonMinimalVerify,
+}
+
+impl Error {
+    // 01's number.
+    pub fn number(self) -> u32
+        ensures { result ≡ error_number self }
+    {
+        match self {
+            Error::EarlyEndOfScript => 2,
+            Error::NonMinimalPush => 3,
+            Error::InvalidInt => 4,
+            Error::NegativeInt => 5,
+            Error::InvalidOpcode => 6,
+            Error::NonMinimalVerify => 7,
+        }
+    }
+}
+
 // What an opcode byte asks for.
-#[derive(Clone, Copy)]
+#[derive(Clone, Copy, Debug, PartialEq, Eq)]
 pub enum Op {
     // A push of so many bytes.
     Push(u32),
@@ -27,28 +60,13 @@ pub enum Op {
     Unlisted,
 }
 
-// What the bytes of a push say as a number.
-#[derive(Clone, Copy)]
-pub enum Number {
-    Is(u32),
-    NotMinimal,
-    Negative,
-}
-
-// What one instruction gives: its tokens and how many bytes it has, or a refusal's number. The size stands at one place in both
-// cases, and the number apart from the code: read together, they would have to wait for two stores (five times the time a token).
-#[derive(Clone, Copy)]
+// What one instruction gives: its tokens, and how many bytes it has. The size stands at one place in both cases, and the number apart
+// from the code: read together, they would have to wait for two stores (five times the time a token).
+#[derive(Clone, Copy, Debug, PartialEq, Eq)]
 pub enum Lexed {
     One { code: u32, size: usize, number: u32 },
     // A token without a number, and then Verify.
     Two { code: u32, size: usize },
-    Refused(u32),
-}
-
-fn wide(x: u8) -> u32
-    ensures { result ≡ x }
-{
-    x as u32
 }
 
 // Each opcode byte is decided by one table of cases.
@@ -90,222 +108,167 @@ fn opcode(b: u8) -> Op
         0xb1 => Op::One(token::CHECK_LOCK_TIME_VERIFY),
         0xb2 => Op::One(token::CHECK_SEQUENCE_VERIFY),
         0xba => Op::One(token::CHECK_SIG_ADD),
-        0x51..=0x60 => Op::Num(wide(b - 0x50)),
-        0..=0x4b => Op::Push(wide(b)),
+        0x51..=0x60 => Op::Num(u32::from(b - 0x50)),
+        0..=0x4b => Op::Push(u32::from(b)),
         _ => Op::Unlisted,
     }
 }
 
-// Byte i of the n bytes from `at`, and 0 behind them.
-fn digit(s: &[u8], at: usize, n: usize, i: usize) -> u8
-    requires { at + n ≤ length s.now }
-    ensures { result ≡ get_or (take n (drop at s.now)) i 0 }
+// Byte i, and 0 behind the last one.
+fn digit(bytes: &[u8], i: usize) -> u32
+    ensures { result ≡ get_or bytes.now i 0 }
 {
-    if i < n {
-        return s[at + i];
-    }
-    0
+    bytes.get(i).map_or(0, |&b| u32::from(b))
 }
 
-// Four bytes as a number, the lowest first.
-fn sum(a: u8, b: u8, c: u8, d: u8) -> u32
-    ensures { result ≡ a + 256 * (b + 256 * (c + 256 * d)) }
+// At most four bytes as a number, the lowest first.
+fn value(bytes: &[u8]) -> u32
+    requires { length bytes.now ≤ 4 }
+    ensures { result ≡ little_endian bytes.now }
 {
-    (a as u32) + 256 * ((b as u32) + 256 * ((c as u32) + 256 * (d as u32)))
-}
-
-// The value of the n bytes from `at`, at most four, the lowest first.
-fn value(s: &[u8], at: usize, n: usize) -> u32
-    requires { (n ≤ 4) × (at + n ≤ length s.now) }
-    ensures { result ≡ little_endian (take n (drop at s.now)) }
-{
-    let a = digit(s, at, n, 0);
-    let b = digit(s, at, n, 1);
-    let c = digit(s, at, n, 2);
-    let d = digit(s, at, n, 3);
-    sum(a, b, c, d)
+    digit(bytes, 0) + 256 * (digit(bytes, 1) + 256 * (digit(bytes, 2) + 256 * digit(bytes, 3)))
 }
 
 // The minimal test of read_scriptint.
-fn is_minimal(s: &[u8], at: usize, n: usize) -> bool
-    requires { at + n ≤ length s.now }
-    ensures { result ≡ minimal (take n (drop at s.now)) }
+#[tactic(auto, unfolding(crate::specs::Number::minimal))]
+fn is_minimal(bytes: &[u8]) -> bool
+    ensures { result ≡ minimal bytes.now }
 {
-    if n == 0 {
-        return true;
+    match bytes {
+        [] => true,
+        [last] => last % 128 != 0,
+        [.., before, last] => last % 128 != 0 || 128 <= *before,
     }
-    let last = s[at + (n - 1)];
-    if last % 128 != 0 {
-        return true;
-    }
-    if n == 1 {
-        return false;
-    }
-    128 <= s[at + (n - 2)]
 }
 
-// read_scriptint on the n bytes from `at`, at most four: the minimal test, then the value.
-fn read_scriptint(s: &[u8], at: usize, n: usize) -> Number
-    requires { (n ≤ 4) × (at + n ≤ length s.now) }
-    ensures { result ≡ number_of (take n (drop at s.now)) }
+// read_scriptint on at most four bytes: the minimal test, then the sign, then the value.
+#[tactic(auto, unfolding(crate::specs::Number::number_of))]
+fn read_scriptint(bytes: &[u8]) -> Result<u32, Error>
+    requires { length bytes.now ≤ 4 }
+    ensures { result ≡ number_of bytes.now }
 {
-    if !is_minimal(s, at, n) {
-        return Number::NotMinimal;
+    if !is_minimal(bytes) {
+        return Err(Error::InvalidInt);
     }
-    if n == 0 {
-        return Number::Is(0);
+    if let Some(&last) = bytes.last() {
+        if 128 <= last {
+            return Err(Error::NegativeInt);
+        }
     }
-    if 128 <= s[at + (n - 1)] {
-        return Number::Negative;
-    }
-    Number::Is(value(s, at, n))
+    Ok(value(bytes))
 }
 
 // A byte that has an opcode of its own as a number: 1 to 16, and 0x81 for -1.
+#[tactic(auto, unfolding(crate::specs::Push::small))]
 fn is_small(b: u8) -> bool
     ensures { result ≡ small b }
 {
-    match b {
-        1..=16 => true,
-        0x81 => true,
-        _ => false,
-    }
+    matches!(b, 1..=16 | 0x81)
 }
 
-// The token of a number, or its refusal.
-fn number_token(v: Number, all: usize) -> Lexed
-    ensures { result ≡ numbered v all }
+// One token, of an instruction of so many bytes.
+fn one(code: u32, size: usize) -> Result<Lexed, Error>
+    ensures { result ≡ Ok (Lexed.One code size 0) }
 {
-    match v {
-        Number::Is(number) => Lexed::One {
-            code: token::NUM,
-            size: all,
-            number,
-        },
-        Number::NotMinimal => Lexed::Refused(4),
-        Number::Negative => Lexed::Refused(5),
-    }
-}
-
-// The token of a push whose n bytes start at `at`, by its length. The instruction has `all` bytes.
-fn push_token(s: &[u8], at: usize, n: usize, all: usize) -> Lexed
-    requires { at + n ≤ length s.now }
-    ensures { result ≡ pushed (take n (drop at s.now)) n all }
-{
-    match n {
-        20 => bytes_token(token::HASH20, all),
-        32 => bytes_token(token::BYTES32, all),
-        33 => bytes_token(token::BYTES33, all),
-        65 => bytes_token(token::BYTES65, all),
-        0..=4 => number_token(read_scriptint(s, at, n), all),
-        _ => Lexed::Refused(4),
-    }
-}
-
-fn bytes_token(code: u32, all: usize) -> Lexed
-    ensures { result ≡ Lexed.One code all 0 }
-{
-    Lexed::One {
+    Ok(Lexed::One {
         code,
-        size: all,
+        size,
         number: 0,
+    })
+}
+
+// The token of a push, by its length. The instruction has `size` bytes.
+#[tactic(auto, unfolding(crate::specs::Push::pushed))]
+fn push_token(bytes: &[u8], size: usize) -> Result<Lexed, Error>
+    ensures { result ≡ pushed bytes.now (length bytes.now) size }
+{
+    match bytes.len() {
+        20 => one(token::HASH20, size),
+        32 => one(token::BYTES32, size),
+        33 => one(token::BYTES33, size),
+        65 => one(token::BYTES65, size),
+        0..=4 => Ok(Lexed::One {
+            code: token::NUM,
+            size,
+            number: read_scriptint(bytes)?,
+        }),
+        _ => Err(Error::InvalidInt),
     }
 }
 
 // A one-byte push of a byte that has an opcode of its own.
-fn has_opcode(s: &[u8], at: usize, head: usize, n: usize) -> bool
-    requires { (at + head ≤ length s.now) × (head ≤ 5) }
-    ensures { result ≡ has_opcode (drop at s.now) head n }
+#[tactic(auto, unfolding(crate::specs::Push::has_opcode, crate::specs::Push::small))]
+fn has_opcode(rest: &[u8], head: usize, n: usize) -> bool
+    ensures { result ≡ has_opcode rest.now head n }
 {
-    let start = at + head;
-    if n != 1 {
-        return false;
-    }
-    if s.len() <= start {
-        return false;
-    }
-    is_small(s[start])
+    n == 1 && rest.get(head).is_some_and(|&b| is_small(b))
 }
 
-// A push at `at` of n bytes behind a head of so many bytes.
-fn push(s: &[u8], at: usize, head: usize, n: usize) -> Lexed
-    requires { (at + head ≤ length s.now) × (head ≤ 5) }
-    ensures { result ≡ push_of (drop at s.now) head n }
+// A push of n bytes behind a head of so many bytes.
+#[tactic(auto, unfolding(crate::specs::Push::push_of))]
+fn push(rest: &[u8], head: usize, n: usize) -> Result<Lexed, Error>
+    requires { head ≤ length rest.now }
+    ensures { result ≡ push_of rest.now head n }
 {
-    if has_opcode(s, at, head, n) {
-        return Lexed::Refused(3);
+    if has_opcode(rest, head, n) {
+        return Err(Error::NonMinimalPush);
     }
-    let start = at + head;
-    if s.len() - start < n {
-        return Lexed::Refused(2);
+    if rest.len() - head < n {
+        return Err(Error::EarlyEndOfScript);
     }
-    push_token(s, start, n, head + n)
+    push_token(&rest[head..head + n], head + n)
 }
 
 // A push whose length stands in `width` bytes behind the opcode. It has 76 bytes at the least, and no token has so many.
-fn sized(s: &[u8], at: usize, width: usize, least: usize) -> Lexed
-    requires { (at < length s.now) × (width ≤ 4) × (76 ≤ least) }
-    ensures { result ≡ sized_of (drop at s.now) width least }
+#[tactic(auto, unfolding(crate::specs::Push::sized_of, crate::specs::Push::push_of, crate::specs::Push::has_opcode, crate::specs::Push::pushed))]
+fn sized(rest: &[u8], width: usize, least: usize) -> Result<Lexed, Error>
+    requires { (width ≤ 4) × (76 ≤ least) }
+    ensures { result ≡ sized_of rest.now width least }
 {
-    if s.len() - at < 1 + width {
-        return Lexed::Refused(2);
+    let head = 1 + width;
+    if rest.len() < head {
+        return Err(Error::EarlyEndOfScript);
     }
-    let n = tables::long(value(s, at + 1, width));
+    let n = value(&rest[1..head]) as usize;
     if n < least {
-        return Lexed::Refused(3);
+        return Err(Error::NonMinimalPush);
     }
-    let start = at + (1 + width);
-    if s.len() - start < n {
-        return Lexed::Refused(2);
+    if rest.len() - head < n {
+        return Err(Error::EarlyEndOfScript);
     }
-    Lexed::Refused(4)
+    Err(Error::InvalidInt)
 }
 
-// Whether a VERIFY after a token with this code has to be refused, since the two have a fused form.
-fn verify_refused(last: u32) -> bool
-    ensures { result ≡ verify_refused last }
-{
-    match last {
-        token::EQUAL => true,
-        token::CHECK_SIG => true,
-        token::CHECK_MULTI_SIG => true,
-        _ => false,
-    }
-}
-
-// VERIFY after a token with the code `last`.
-fn verify(last: u32) -> Lexed
+// VERIFY after a token with the code `last`. It is refused where the two have a fused form.
+#[tactic(auto, unfolding(crate::specs::Instruction::verify_refused))]
+fn verify(last: u32) -> Result<Lexed, Error>
     ensures { result ≡ given Op.Verify [] last }
 {
-    if verify_refused(last) {
-        return Lexed::Refused(7);
-    }
-    Lexed::One {
-        code: token::VERIFY,
-        size: 1,
-        number: 0,
+    match last {
+        token::EQUAL | token::CHECK_SIG | token::CHECK_MULTI_SIG => Err(Error::NonMinimalVerify),
+        _ => one(token::VERIFY, 1),
     }
 }
 
-// The instruction at `at`, after a token with the code `last`. Behind the script's end there is none: its bytes are missing.
-pub fn instruction(s: &[u8], at: usize, last: u32) -> Lexed
-    ensures { result ≡ instruction_of (drop at s.now) last }
+// The instruction at the front of the rest of a script, after a token with the code `last`. Of an empty rest its bytes are missing.
+#[tactic(auto, using(crate::proofs::OpcodeLaws::width_narrow, crate::proofs::InstructionLaws::none_there), unfolding(crate::specs::Instruction::instruction_of, crate::specs::Opcode::ranged))]
+pub fn instruction(rest: &[u8], last: u32) -> Result<Lexed, Error>
+    ensures { result ≡ instruction_of rest.now last }
 {
-    if s.len() <= at {
-        return Lexed::Refused(2);
-    }
-    let asked = opcode(s[at]);
-    match asked {
-        Op::Push(n) => push(s, at, 1, tables::long(n)),
-        Op::Sized(width, least) => sized(s, at, width, least),
-        Op::Num(number) => Lexed::One {
+    let [byte, ..] = rest else {
+        return Err(Error::EarlyEndOfScript);
+    };
+    match opcode(*byte) {
+        Op::Push(n) => push(rest, 1, n as usize),
+        Op::Sized(width, least) => sized(rest, width, least),
+        Op::Num(number) => Ok(Lexed::One {
             code: token::NUM,
             size: 1,
             number,
-        },
-        Op::One(code) => bytes_token(code, 1),
-        Op::Fused(code) => Lexed::Two { code, size: 1 },
+        }),
+        Op::One(code) => one(code, 1),
+        Op::Fused(code) => Ok(Lexed::Two { code, size: 1 }),
         Op::Verify => verify(last),
-        Op::Unlisted => Lexed::Refused(6),
+        Op::Unlisted => Err(Error::InvalidOpcode),
     }
 }

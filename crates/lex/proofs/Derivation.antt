@@ -9,8 +9,9 @@ use borrow.Author.Tests.{le-leb, leb-true, leb-false}
 use lib.Dec.{leb}
 use lib.ListN.{length, drop, drop_of_length-le}
 use Rattle.tables.specs.Choose.{pick}
-use Rattle.instruction.specs.declared.Lexed.{Lexed}
-use Rattle.instruction.specs.declared.Lexed.TheVariants.{One, Two, Refused}
+use Rattle.instruction.specs.Error.{Lexing}
+use Rattle.instruction.specs.declared.Lexed.TheVariants.{One, Two}
+use Rattle.std.specs.Prelude.{Ok, Err}
 use Rattle.instruction.specs.Instruction.{instruction_of}
 use Rattle.lex.specs.Token.{Token, token, VERIFY}
 use Rattle.lex.specs.Script.{script_limit, Outcome, tokens, refused, and_then, after, instructions, lex_of}
@@ -20,8 +21,8 @@ use Rattle.instruction.proofs.SizeLaws.{one_fits, two_fits}
 -- ts are the tokens from place `at` on, after a token with the code `last`
 pub data Gives (s : List ℕ) : ℕ → ℕ → List Token → Type 0 where
   done : {at last : ℕ} → at ≡ length s → Gives s at last []
-  one : {at last c v n : ℕ} {ts : List Token} → at < length s → instruction_of (drop at s) last ≡ One c n v → Gives s (at + n) c ts → Gives s at last (token c v at ∷ ts)
-  two : {at last c n : ℕ} {ts : List Token} → at < length s → instruction_of (drop at s) last ≡ Two c n → Gives s (at + n) VERIFY ts → Gives s at last (token c 0 at ∷ token VERIFY 0 at ∷ ts)
+  one : {at last c v n : ℕ} {ts : List Token} → at < length s → instruction_of (drop at s) last ≡ Ok (One c n v) → Gives s (at + n) c ts → Gives s at last (token c v at ∷ ts)
+  two : {at last c n : ℕ} {ts : List Token} → at < length s → instruction_of (drop at s) last ≡ Ok (Two c n) → Gives s (at + n) VERIFY ts → Gives s at last (token c 0 at ∷ token VERIFY 0 at ∷ ts)
 
 -- ---- from the outcome to the derivation
 then_tokens : (t : Token) (o : Outcome) (ts : List Token) → and_then t o ≡ tokens ts → (us : List Token) × (o ≡ tokens us) × (ts ≡ t ∷ us)
@@ -41,21 +42,21 @@ module _ (s : List ℕ) where
     abbrev goes : ℕ → ℕ → ℕ → Outcome
     goes left n code = instructions most left (at + n) code (drop (at + n) s)
 
-    step_gives : (x : Lexed) → instruction_of (drop at s) last ≡ x → after room at x goes ≡ tokens ts → Gives s at last ts
+    step_gives : (x : Lexing) → instruction_of (drop at s) last ≡ x → after room at x goes ≡ tokens ts → Gives s at last ts
     unfolding Rest
-    step_gives (One c n v) e p =
+    step_gives (Ok (One c n v)) e p =
         let f : (1 ≤ n) × (n ≤ length s - at) = one_fits s at last here (sym e) c v n refl in
         let q : (leb 1 room ≡ true) × (and_then (token c v at) (goes (room - 1) n c) ≡ tokens ts) = pick_tokens (leb 1 room) _ 8 at ts p in
         let u : (us : List Token) × (goes (room - 1) n c ≡ tokens us) × (ts ≡ token c v at ∷ us) = then_tokens (token c v at) (goes (room - 1) n c) ts q.1 in
         subst (Gives s at last) (sym u.2) (one here e (rest n (room - 1) c u.0 (omega arith) (omega arith) u.1))
-    step_gives (Two c n) e p =
+    step_gives (Ok (Two c n)) e p =
         let f : (1 ≤ n) × (n ≤ length s - at) = two_fits s at last here (sym e) c n refl in
         let q : (leb 2 room ≡ true) × (and_then (token c 0 at) (and_then (token VERIFY 0 at) (goes (room - 2) n VERIFY)) ≡ tokens ts) = pick_tokens (leb 2 room) _ 8 at ts p in
         let u : (us : List Token) × (and_then (token VERIFY 0 at) (goes (room - 2) n VERIFY) ≡ tokens us) × (ts ≡ token c 0 at ∷ us) = then_tokens (token c 0 at) (and_then (token VERIFY 0 at) (goes (room - 2) n VERIFY)) ts q.1 in
         let w : (us : List Token) × (goes (room - 2) n VERIFY ≡ tokens us) × (u.0 ≡ token VERIFY 0 at ∷ us) = then_tokens (token VERIFY 0 at) (goes (room - 2) n VERIFY) u.0 u.1 in
         subst (Gives s at last) (sym (u.2 ∙ ap (λ (l : List Token). token c 0 at ∷ l) w.2))
         (two here e (rest n (room - 2) VERIFY w.0 (omega arith) (omega arith) w.1))
-    step_gives (Refused k) e p = let z : ◌≡◌ {A = ℕ} 0 1 = cc in absurd (omega arith)
+    step_gives (Err k) e p = let z : ◌≡◌ {A = ℕ} 0 1 = cc in absurd (omega arith)
 
   ended_gives : (most room at last : ℕ) (ts : List Token) → at ≡ length s → instructions most room at last (drop at s) ≡ tokens ts → Gives s at last ts
   ended_gives most room at last ts e p =
@@ -89,13 +90,13 @@ module _ (s : List ℕ) where
       let f : (1 ≤ n) × (n ≤ length s - at) = two_fits s at last h (sym e) c n refl in
       omega arith
 
-  step_lexes : (most room at last : ℕ) (x : Lexed) (o : Outcome) → at < length s → length s - at ≤ most → instruction_of (drop at s) last ≡ x
+  step_lexes : (most room at last : ℕ) (x : Lexing) (o : Outcome) → at < length s → length s - at ≤ most → instruction_of (drop at s) last ≡ x
       → after room at x (λ left n code. instructions (most - 1) left (at + n) code (drop (at + n) s)) ≡ o → instructions most room at last (drop at s) ≡ o
   step_lexes most room at last x o h enough e p =
       let f : most ≡ suc (most - 1) = omega arith in
       ap (λ (m : ℕ). instructions m room at last (drop at s)) f
       ∙ opened (most - 1) room at last s h
-      ∙ ap (λ (y : Lexed). after room at y (λ left n code. instructions (most - 1) left (at + n) code (drop (at + n) s))) e
+      ∙ ap (λ (y : Lexing). after room at y (λ left n code. instructions (most - 1) left (at + n) code (drop (at + n) s))) e
       ∙ p
 
   gives_lexes : {at last : ℕ} {ts : List Token} → Gives s at last ts → (most room : ℕ) → length s - at ≤ most → length ts ≤ room → instructions most room at last (drop at s) ≡ tokens ts
@@ -109,12 +110,12 @@ module _ (s : List ℕ) where
   gives_lexes (one {at} {last} {c} {v} {n} {ts} h e g) most room enough fits =
       let f : (1 ≤ n) × (n ≤ length s - at) = one_fits s at last h (sym e) c v n refl in
       let i : instructions (most - 1) (room - 1) (at + n) c (drop (at + n) s) ≡ tokens ts = gives_lexes g (most - 1) (room - 1) (omega arith) (omega arith) in
-      step_lexes most room at last (One c n v) (tokens (token c v at ∷ ts)) h enough e
+      step_lexes most room at last (Ok (One c n v)) (tokens (token c v at ∷ ts)) h enough e
       (simp (le-leb 1 room (omega arith)) (ap (and_then (token c v at)) i))
   gives_lexes (two {at} {last} {c} {n} {ts} h e g) most room enough fits =
       let f : (1 ≤ n) × (n ≤ length s - at) = two_fits s at last h (sym e) c n refl in
       let i : instructions (most - 1) (room - 2) (at + n) VERIFY (drop (at + n) s) ≡ tokens ts = gives_lexes g (most - 1) (room - 2) (omega arith) (omega arith) in
-      step_lexes most room at last (Two c n) (tokens (token c 0 at ∷ token VERIFY 0 at ∷ ts)) h enough e
+      step_lexes most room at last (Ok (Two c n)) (tokens (token c 0 at ∷ token VERIFY 0 at ∷ ts)) h enough e
       (simp (le-leb 2 room (omega arith)) (ap (λ (o : Outcome). and_then (token c 0 at) (and_then (token VERIFY 0 at) o)) i))
 
 -- ---- the whole script

@@ -5,21 +5,30 @@ use mathlib.Core.List.{List, [], ◌∷◌, ◌++◌, map}
 use Prim.Native.Nat.{ℕ, ◌+◌, ◌-◌, ◌*◌, ◌/◌, ◌≤◌, ◌<◌}
 use native.Mathlib.Omega.{arith}
 use mathlib.Core.Bool.{false}
-use lib.Dec.{leb}
+use borrow.Author.Tests.{lt-leb}
 use lib.ListN.{length, drop, length-append, length-map}
 use Rattle.tables.specs.Tables.{zeros, flat, Strided, put_at}
 use Rattle.tables.proofs.FlatLaws.{strided_map, append_entry}
+use Rattle.instruction.specs.declared.Error.{Error}
+use Rattle.instruction.specs.Error.{error_number, Lexing}
+use Rattle.instruction.specs.declared.Lexed.TheVariants.{One, Two}
+use Rattle.std.specs.Prelude.{Result, Ok, Err}
+use Rattle.lex.specs.declared.Refused.{Refused}
 use Rattle.instruction.specs.declared.Lexed.{Lexed}
-use Rattle.instruction.specs.declared.Lexed.TheVariants.{One, Two, Refused}
-use Rattle.lex.specs.declared.Answer.{Answer}
-use Rattle.lex.specs.declared.Answer.TheVariants as answer
-use Rattle.lex.specs.declared.Ample.{Ample}
-use Rattle.lex.specs.declared.Ample.TheVariants as ample
 use Rattle.instruction.specs.Instruction.{instruction_of}
 use Rattle.lex.specs.Token.{Token, token, VERIFY}
-use Rattle.lex.specs.Script.{script_limit, Outcome, tokens, refused, instructions, lex_of, numbers, table_of, answer_of, Fills, Lexes}
-use Rattle.lex.specs.Room.{sizes_for, room_for, room_of}
+use Rattle.lex.specs.Script.{placed, Answer, refusal, script_limit, Outcome, tokens, refused, instructions, lex_of, numbers, table_of, answer_of, Fills, Lexes}
+use Rattle.lex.specs.Room.{Ample, sizes_for, room_for, room_of}
 use Rattle.lex.proofs.ScanLaws.{limit_low, limit_kept, limit_passed, Scan, begun, refuses, full_one, full_two, one_more, two_more, ended}
+
+-- what `instruction_at` answers, read back
+pub placed_ok : (at : ℕ) (x : Lexing) {r : Result Lexed Refused} {got : Lexed} → r ≡ placed at x → r ≡ Ok got → Ok got ≡ x
+placed_ok at (Ok y) {r} {got} p q = let z : got ≡ y = cc in ap Ok z
+placed_ok at (Err e) p q = let z : ◌≡◌ {A = ℕ} 0 1 = cc in absurd (omega arith)
+
+pub placed_err : (at : ℕ) (x : Lexing) {r : Result Lexed Refused} {f : Refused} → r ≡ placed at x → r ≡ Err f → (k : Error) × (Err k ≡ x) × (f ≡ refusal (error_number k) at)
+placed_err at (Ok y) p q = let z : ◌≡◌ {A = ℕ} 0 1 = cc in absurd (omega arith)
+placed_err at (Err e) {r} {f} p q = let z : f ≡ record { number = error_number e; place = at } = cc in (e, refl, z)
 
 -- three numbers a token
 pub tokens_strided : (ts : List Token) → Strided 3 (map numbers ts)
@@ -63,25 +72,25 @@ fill_begun s size table h w z =
 
 -- a refusal
 filled_refused : (s : List ℕ) (size k p : ℕ) (table : List ℕ) → length s ≤ script_limit → instructions (length s) (size / 3) 0 0 s ≡ refused k p
-    → (answer.Refused k p ≡ answer_of (lex_of (size / 3) s)) × Fills size (lex_of (size / 3) s) table
+    → (Err (refusal k p) ≡ answer_of (lex_of (size / 3) s)) × Fills size (lex_of (size / 3) s) table
 filled_refused s size k p table h e =
     let f : lex_of (size / 3) s ≡ refused k p = limit_kept (size / 3) s h ∙ e in
     (ap answer_of (sym f), subst (λ (o : Outcome). Fills size o table) (sym f) tt)
 
-module _ (s : List ℕ) (size : ℕ) (table : List ℕ) (at n last : ℕ) (i : Filling s size table at n last) (h : at < length s) (x : Lexed) (e : x ≡ instruction_of (drop at s) last) where
+module _ (s : List ℕ) (size : ℕ) (table : List ℕ) (at n last : ℕ) (i : Filling s size table at n last) (h : at < length s) (x : Lexing) (e : x ≡ instruction_of (drop at s) last) where
   room_left : (k : ℕ) → size / 3 - n < k → size / 3 - length i.ts < k
   room_left k q = let c : length i.ts ≡ n = i.count in omega arith
 
-  pub fill_refused : (k : ℕ) {r : Answer} (after : List ℕ) → x ≡ Refused k → r ≡ answer.Refused k at → (r ≡ answer_of (lex_of (size / 3) s)) × Fills size (lex_of (size / 3) s) after
-  fill_refused k after p q = let f = filled_refused s size k at after i.short (refuses s (size / 3) i.ts at last i.scan h x e k p) in (q ∙ f.0, f.1)
+  pub fill_refused : {r : Answer} {f : Refused} (after : List ℕ) → r ≡ Err f → (k : Error) × (Err k ≡ x) × (f ≡ refusal (error_number k) at) → (r ≡ answer_of (lex_of (size / 3) s)) × Fills size (lex_of (size / 3) s) after
+  fill_refused after q (k, p, g) = let f = filled_refused s size (error_number k) at after i.short (refuses s (size / 3) i.ts at last i.scan h x e k (sym p)) in (q ∙ ap Err g ∙ f.0, f.1)
 
-  pub fill_full_one : (c v m : ℕ) {r : Answer} (after : List ℕ) → x ≡ One c m v → size / 3 - n < 1 → r ≡ answer.Refused 8 at → (r ≡ answer_of (lex_of (size / 3) s)) × Fills size (lex_of (size / 3) s) after
+  pub fill_full_one : (c v m : ℕ) {r : Answer} (after : List ℕ) → x ≡ Ok (One c m v) → size / 3 - n < 1 → r ≡ Err (refusal 8 at) → (r ≡ answer_of (lex_of (size / 3) s)) × Fills size (lex_of (size / 3) s) after
   fill_full_one c v m after p l q = let f = filled_refused s size 8 at after i.short (full_one s (size / 3) i.ts at last i.scan h x e c v m p (room_left 1 l)) in (q ∙ f.0, f.1)
 
-  pub fill_full_two : (c m : ℕ) {r : Answer} (after : List ℕ) → x ≡ Two c m → size / 3 - n < 2 → r ≡ answer.Refused 8 at → (r ≡ answer_of (lex_of (size / 3) s)) × Fills size (lex_of (size / 3) s) after
+  pub fill_full_two : (c m : ℕ) {r : Answer} (after : List ℕ) → x ≡ Ok (Two c m) → size / 3 - n < 2 → r ≡ Err (refusal 8 at) → (r ≡ answer_of (lex_of (size / 3) s)) × Fills size (lex_of (size / 3) s) after
   fill_full_two c m after p l q = let f = filled_refused s size 8 at after i.short (full_two s (size / 3) i.ts at last i.scan h x e c m p (room_left 2 l)) in (q ∙ f.0, f.1)
 
-  pub fill_one : (c v m : ℕ) (after : List ℕ) → x ≡ One c m v → 1 ≤ size / 3 - n → length after ≡ length table → after ≡ put_at table (3 * n) (numbers (token c v at)) → Filling s size after (at + m) (n + 1) c
+  pub fill_one : (c v m : ℕ) (after : List ℕ) → x ≡ Ok (One c m v) → 1 ≤ size / 3 - n → length after ≡ length table → after ≡ put_at table (3 * n) (numbers (token c v at)) → Filling s size after (at + m) (n + 1) c
   fill_one c v m after p q l g =
       let d : length i.ts ≡ n = i.count in
       let w : length table ≡ size = i.whole in
@@ -96,7 +105,7 @@ module _ (s : List ℕ) (size : ℕ) (table : List ℕ) (at n last : ℕ) (i : F
         short = i.short;
       }
 
-  pub fill_two : (c m : ℕ) (between after : List ℕ) → x ≡ Two c m → 2 ≤ size / 3 - n → length between ≡ length table → length after ≡ length between
+  pub fill_two : (c m : ℕ) (between after : List ℕ) → x ≡ Ok (Two c m) → 2 ≤ size / 3 - n → length between ≡ length table → length after ≡ length between
       → between ≡ put_at table (3 * n) (numbers (token c 0 at)) → after ≡ put_at between (3 * (n + 1)) (numbers (token VERIFY 0 at)) → Filling s size after (at + m) (n + 2) VERIFY
   fill_two c m between after p q l l' g g' =
       let d : length i.ts ≡ n = i.count in
@@ -121,42 +130,42 @@ module _ (s : List ℕ) (size : ℕ) (table : List ℕ) (at n last : ℕ) (i : F
 
 -- the end of the script
 pub fill_ended : (s : List ℕ) (size : ℕ) (table : List ℕ) (at n last : ℕ) → Filling s size table at n last → length s ≤ at
-    → (answer.Tokens n ≡ answer_of (lex_of (size / 3) s)) × Fills size (lex_of (size / 3) s) table
+    → (Ok n ≡ answer_of (lex_of (size / 3) s)) × Fills size (lex_of (size / 3) s) table
 fill_ended s size table at n last i h =
     let f : lex_of (size / 3) s ≡ tokens i.ts = limit_kept (size / 3) s i.short ∙ ended s (size / 3) i.ts at last i.scan h in (
-      ap answer.Tokens (sym i.count) ∙ ap answer_of (sym f),
+      ap Ok (sym i.count) ∙ ap answer_of (sym f),
       subst (λ (o : Outcome). Fills size o table) (sym f) (i.holds ∙ ap (λ (k : ℕ). flat (map numbers i.ts) ++ zeros (size - 3 * k)) (sym i.count)),
     )
 
 -- what `lex` makes of it
-pub lex_long : (s : List ℕ) (size : ℕ) (table : List ℕ) {r : Answer} → leb (length s) script_limit ≡ false → r ≡ answer.Refused 1 0 → table ≡ zeros size → Lexes s size r table
-lex_long s size table e p z =
-    let f : lex_of (size / 3) s ≡ refused 1 0 = limit_passed (size / 3) s e in
+pub lex_long : (s : List ℕ) (size : ℕ) (table : List ℕ) {r : Answer} → script_limit < length s → r ≡ Err (refusal 1 0) → table ≡ zeros size → Lexes s size r table
+lex_long s size table h p z =
+    let f : lex_of (size / 3) s ≡ refused 1 0 = limit_passed (size / 3) s (lt-leb (length s) script_limit h) in
     (p ∙ ap answer_of (sym f), z ∙ ap (table_of size) (sym f))
 
-tokens_outcome : (size n : ℕ) (o : Outcome) (table : List ℕ) → answer.Tokens n ≡ answer_of o → Fills size o table → table ≡ table_of size o
+tokens_outcome : (size n : ℕ) (o : Outcome) (table : List ℕ) → Ok n ≡ answer_of o → Fills size o table → table ≡ table_of size o
 tokens_outcome size n (tokens ts) table p q = q
 tokens_outcome size n (refused k l) table p q = let z : ◌≡◌ {A = ℕ} 0 1 = cc in absurd (omega arith)
 
-pub lex_tokens : (s : List ℕ) (size n : ℕ) (table : List ℕ) {r : Answer} → r ≡ answer.Tokens n → r ≡ answer_of (lex_of (size / 3) s) → Fills size (lex_of (size / 3) s) table → Lexes s size (answer.Tokens n) table
+pub lex_tokens : (s : List ℕ) (size n : ℕ) (table : List ℕ) {r : Answer} → r ≡ Ok n → r ≡ answer_of (lex_of (size / 3) s) → Fills size (lex_of (size / 3) s) table → Lexes s size (Ok n) table
 lex_tokens s size n table e p q = (sym e ∙ p, tokens_outcome size n (lex_of (size / 3) s) table (sym e ∙ p) q)
 
-refused_outcome : (size k l : ℕ) (o : Outcome) (table : List ℕ) → answer.Refused k l ≡ answer_of o → table ≡ zeros size → table ≡ table_of size o
+refused_outcome : (size k l : ℕ) (o : Outcome) (table : List ℕ) → Err (refusal k l) ≡ answer_of o → table ≡ zeros size → table ≡ table_of size o
 refused_outcome size k l (tokens ts) table p q = let z : ◌≡◌ {A = ℕ} 0 1 = cc in absurd (omega arith)
 refused_outcome size k l (refused k' l') table p q = q
 
-pub lex_refused : (s : List ℕ) (size k l : ℕ) (table : List ℕ) {r r' : Answer} → r ≡ answer.Refused k l → r ≡ answer_of (lex_of (size / 3) s) → table ≡ zeros size → r' ≡ answer.Refused k l → Lexes s size r' table
+pub lex_refused : (s : List ℕ) (size k l : ℕ) (table : List ℕ) {r r' : Answer} → r ≡ Err (refusal k l) → r ≡ answer_of (lex_of (size / 3) s) → table ≡ zeros size → r' ≡ Err (refusal k l) → Lexes s size r' table
 lex_refused s size k l table e p z q = (q ∙ sym e ∙ p, refused_outcome size k l (lex_of (size / 3) s) table (sym e ∙ p) z)
 
 -- the same, from a table whose length was kept
-pub lex_filled : (s : List ℕ) (size size' n : ℕ) (table : List ℕ) {r : Answer} → size' ≡ size → r ≡ answer.Tokens n
-    → (r ≡ answer_of (lex_of (size' / 3) s)) × Fills size' (lex_of (size' / 3) s) table → Lexes s size (answer.Tokens n) table
+pub lex_filled : (s : List ℕ) (size size' n : ℕ) (table : List ℕ) {r : Answer} → size' ≡ size → r ≡ Ok n
+    → (r ≡ answer_of (lex_of (size' / 3) s)) × Fills size' (lex_of (size' / 3) s) table → Lexes s size (Ok n) table
 lex_filled s size size' n table {r} k e f =
     let g : (r ≡ answer_of (lex_of (size / 3) s)) × Fills size (lex_of (size / 3) s) table =
     subst (λ (m : ℕ). (r ≡ answer_of (lex_of (m / 3) s)) × Fills m (lex_of (m / 3) s) table) k f in
     lex_tokens s size n table e g.0 g.1
 
-pub lex_cleared : (s : List ℕ) (size size' k l : ℕ) (table : List ℕ) {r r' : Answer} → size' ≡ size → r ≡ answer.Refused k l → r ≡ answer_of (lex_of (size' / 3) s) → table ≡ zeros size → r' ≡ answer.Refused k l → Lexes s size r' table
+pub lex_cleared : (s : List ℕ) (size size' k l : ℕ) (table : List ℕ) {r r' : Answer} → size' ≡ size → r ≡ Err (refusal k l) → r ≡ answer_of (lex_of (size' / 3) s) → table ≡ zeros size → r' ≡ Err (refusal k l) → Lexes s size r' table
 lex_cleared s size size' k l table {r} e p f z q = lex_refused s size k l table p (subst (λ (m : ℕ). r ≡ answer_of (lex_of (m / 3) s)) e f) z q
 
 -- the scan that counts: two tokens a byte always have room
@@ -185,11 +194,11 @@ room_is : (s : List ℕ) (o : Outcome) → length s ≤ script_limit → instruc
 unfolding room_of
 room_is s o h e = ap room_for (sym (limit_kept (2 * length s) s h ∙ e))
 
-module _ (s : List ℕ) (at n last : ℕ) (i : Counting s at n last) (h : at < length s) (x : Lexed) (e : x ≡ instruction_of (drop at s) last) where
-  pub count_refused : (k : ℕ) {r : Ample} → x ≡ Refused k → r ≡ ample.Refused k at → r ≡ room_of s
-  count_refused k p q = q ∙ room_is s (refused k at) i.short (refuses s (2 * length s) i.ts at last i.scan h x e k p)
+module _ (s : List ℕ) (at n last : ℕ) (i : Counting s at n last) (h : at < length s) (x : Lexing) (e : x ≡ instruction_of (drop at s) last) where
+  pub count_refused : {r : Ample} {f : Refused} → r ≡ Err f → (k : Error) × (Err k ≡ x) × (f ≡ refusal (error_number k) at) → r ≡ room_of s
+  count_refused q (k, p, g) = q ∙ ap Err g ∙ room_is s (refused (error_number k) at) i.short (refuses s (2 * length s) i.ts at last i.scan h x e k (sym p))
 
-  pub count_one : (c v m : ℕ) → x ≡ One c m v → (1 ≤ m) × (m ≤ length s - at) → Counting s (at + m) (n + 1) c
+  pub count_one : (c v m : ℕ) → x ≡ Ok (One c m v) → (1 ≤ m) × (m ≤ length s - at) → Counting s (at + m) (n + 1) c
   count_one c v m p w =
       let d : length i.ts ≡ n = i.count in
       let f : n ≤ 2 * at = i.few in
@@ -203,7 +212,7 @@ module _ (s : List ℕ) (at n last : ℕ) (i : Counting s at n last) (h : at < l
         short = i.short;
       }
 
-  pub count_two : (c m : ℕ) → x ≡ Two c m → (1 ≤ m) × (m ≤ length s - at) → Counting s (at + m) (n + 2) VERIFY
+  pub count_two : (c m : ℕ) → x ≡ Ok (Two c m) → (1 ≤ m) × (m ≤ length s - at) → Counting s (at + m) (n + 2) VERIFY
   count_two c m p w =
       let d : length i.ts ≡ n = i.count in
       let f : n ≤ 2 * at = i.few in
@@ -222,6 +231,6 @@ pub count_ended : (s : List ℕ) (at n last : ℕ) (i : Counting s at n last) �
 count_ended s at n last i h e =
     e ∙ ap sizes_for (sym i.count) ∙ room_is s (tokens i.ts) i.short (ended s (2 * length s) i.ts at last i.scan h)
 
-pub count_long : (s : List ℕ) {r : Ample} → leb (length s) script_limit ≡ false → r ≡ ample.Refused 1 0 → r ≡ room_of s
+pub count_long : (s : List ℕ) {r : Ample} → script_limit < length s → r ≡ Err (refusal 1 0) → r ≡ room_of s
 unfolding room_of
-count_long s e p = p ∙ ap room_for (sym (limit_passed (2 * length s) s e))
+count_long s h p = p ∙ ap room_for (sym (limit_passed (2 * length s) s (lt-leb (length s) script_limit h)))

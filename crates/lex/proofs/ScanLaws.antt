@@ -9,8 +9,10 @@ use borrow.Author.Tests.{le-leb, lt-leb}
 use lib.ListN.{length, drop, length-drop, length-append, drop_of_length-le}
 use lib.Seq.{drop-drop}
 use lib.Dec.{leb}
-use Rattle.instruction.specs.declared.Lexed.{Lexed}
-use Rattle.instruction.specs.declared.Lexed.TheVariants.{One, Two, Refused}
+use Rattle.instruction.specs.declared.Error.{Error}
+use Rattle.instruction.specs.Error.{error_number, Lexing}
+use Rattle.instruction.specs.declared.Lexed.TheVariants.{One, Two}
+use Rattle.std.specs.Prelude.{Ok, Err}
 use Rattle.instruction.specs.Instruction.{instruction_of}
 use Rattle.lex.specs.Token.{Token, token, VERIFY}
 use Rattle.lex.specs.Script.{script_limit, Outcome, tokens, refused, and_then, after, instructions, lex_of}
@@ -76,7 +78,7 @@ opened most room at last s h =
     ∙ ap (λ (g : ℕ → List ℕ). after room at (instruction_of (drop at s) last) (λ left n code. instructions most left (at + n) code (g n)))
     (fun_ext (λ n. drop-drop n at s))
 
-module _ (s : List ℕ) (room : ℕ) (ts : List Token) (at last : ℕ) (i : Scan s room ts at last) (h : at < length s) (x : Lexed) (e : x ≡ instruction_of (drop at s) last) where
+module _ (s : List ℕ) (room : ℕ) (ts : List Token) (at last : ℕ) (i : Scan s room ts at last) (h : at < length s) (x : Lexing) (e : x ≡ instruction_of (drop at s) last) where
   onward : ℕ → ℕ → ℕ → Outcome
   onward left m code = instructions (i.most - 1) left (at + m) code (drop (at + m) s)
 
@@ -87,21 +89,21 @@ module _ (s : List ℕ) (room : ℕ) (ts : List Token) (at last : ℕ) (i : Scan
       let f : i.most ≡ suc (i.most - 1) = omega arith in
       i.same
       ∙ ap (λ (k : ℕ). with_tokens ts (instructions k (room - length ts) at last (drop at s))) f
-      ∙ ap (with_tokens ts) (opened (i.most - 1) (room - length ts) at last s h ∙ ap (λ (y : Lexed). after (room - length ts) at y onward) (sym e))
+      ∙ ap (with_tokens ts) (opened (i.most - 1) (room - length ts) at last s h ∙ ap (λ (y : Lexing). after (room - length ts) at y onward) (sym e))
 
-  stepped_by : (y : Lexed) → x ≡ y → instructions (length s) room 0 0 s ≡ with_tokens ts (after (room - length ts) at y onward)
-  stepped_by y p = stepped ∙ ap (λ (z : Lexed). with_tokens ts (after (room - length ts) at z onward)) p
+  stepped_by : (y : Lexing) → x ≡ y → instructions (length s) room 0 0 s ≡ with_tokens ts (after (room - length ts) at y onward)
+  stepped_by y p = stepped ∙ ap (λ (z : Lexing). with_tokens ts (after (room - length ts) at z onward)) p
 
-  pub refuses : (k : ℕ) → x ≡ Refused k → instructions (length s) room 0 0 s ≡ refused k at
-  refuses k p = stepped_by (Refused k) p ∙ with_refused ts k at
+  pub refuses : (k : Error) → x ≡ Err k → instructions (length s) room 0 0 s ≡ refused (error_number k) at
+  refuses k p = stepped_by (Err k) p ∙ with_refused ts (error_number k) at
 
-  pub full_one : (c v m : ℕ) → x ≡ One c m v → room - length ts < 1 → instructions (length s) room 0 0 s ≡ refused 8 at
-  full_one c v m p q = stepped_by (One c m v) p ∙ simp (lt-leb 1 (room - length ts) q) (with_refused ts 8 at)
+  pub full_one : (c v m : ℕ) → x ≡ Ok (One c m v) → room - length ts < 1 → instructions (length s) room 0 0 s ≡ refused 8 at
+  full_one c v m p q = stepped_by (Ok (One c m v)) p ∙ simp (lt-leb 1 (room - length ts) q) (with_refused ts 8 at)
 
-  pub full_two : (c m : ℕ) → x ≡ Two c m → room - length ts < 2 → instructions (length s) room 0 0 s ≡ refused 8 at
-  full_two c m p q = stepped_by (Two c m) p ∙ simp (lt-leb 2 (room - length ts) q) (with_refused ts 8 at)
+  pub full_two : (c m : ℕ) → x ≡ Ok (Two c m) → room - length ts < 2 → instructions (length s) room 0 0 s ≡ refused 8 at
+  full_two c m p q = stepped_by (Ok (Two c m)) p ∙ simp (lt-leb 2 (room - length ts) q) (with_refused ts 8 at)
 
-  pub one_more : (c v m : ℕ) → x ≡ One c m v → 1 ≤ room - length ts → Scan s room (ts ++ (token c v at ∷ [])) (at + m) c
+  pub one_more : (c v m : ℕ) → x ≡ Ok (One c m v) → 1 ≤ room - length ts → Scan s room (ts ++ (token c v at ∷ [])) (at + m) c
   unfolding onward
   one_more c v m p q =
       let w : (1 ≤ m) × (m ≤ length s - at) = one_fits s at last h e c v m p in
@@ -115,12 +117,12 @@ module _ (s : List ℕ) (room : ℕ) (ts : List Token) (at last : ℕ) (i : Scan
         enough = omega arith;
         few = omega arith;
         same =
-            stepped_by (One c m v) p
+            stepped_by (Ok (One c m v)) p
             ∙ simp (le-leb 1 (room - length ts) q) (with_one ts (token c v at) (onward (room - length ts - 1) m c))
             ∙ ap (λ (k : ℕ). with_tokens (ts ++ (token c v at ∷ [])) (instructions (i.most - 1) k (at + m) c (drop (at + m) s))) z;
       }
 
-  pub two_more : (c m : ℕ) → x ≡ Two c m → 2 ≤ room - length ts → Scan s room (ts ++ (token c 0 at ∷ []) ++ (token VERIFY 0 at ∷ [])) (at + m) VERIFY
+  pub two_more : (c m : ℕ) → x ≡ Ok (Two c m) → 2 ≤ room - length ts → Scan s room (ts ++ (token c 0 at ∷ []) ++ (token VERIFY 0 at ∷ [])) (at + m) VERIFY
   unfolding onward
   two_more c m p q =
       let w : (1 ≤ m) × (m ≤ length s - at) = two_fits s at last h e c m p in
@@ -136,7 +138,7 @@ module _ (s : List ℕ) (room : ℕ) (ts : List Token) (at last : ℕ) (i : Scan
         enough = omega arith;
         few = omega arith;
         same =
-            stepped_by (Two c m) p
+            stepped_by (Ok (Two c m)) p
             ∙ simp (le-leb 2 (room - length ts) q)
             (with_one ts (token c 0 at) (and_then (token VERIFY 0 at) (onward (room - length ts - 2) m VERIFY))
             ∙ with_one (ts ++ (token c 0 at ∷ [])) (token VERIFY 0 at) (onward (room - length ts - 2) m VERIFY))

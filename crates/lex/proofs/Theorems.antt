@@ -12,15 +12,13 @@ use Rattle.tables.specs.Tables.{zeros, flat, newest}
 use Rattle.tables.proofs.NewestLaws.{newest_same, newest_reverse}
 use Rattle.tables.proofs.PutLaws.{zeros_cell}
 use Rattle.tables.proofs.FlatLaws.{entry_cell}
-use Rattle.instruction.specs.declared.Lexed.{Lexed}
-use Rattle.instruction.specs.declared.Lexed.TheVariants.{One, Two, Refused}
-use Rattle.lex.specs.declared.Answer.{Answer}
-use Rattle.lex.specs.declared.Answer.TheVariants as answer
-use Rattle.lex.specs.declared.Ample.{Ample}
+use Rattle.instruction.specs.Error.{error_number, Lexing}
+use Rattle.instruction.specs.declared.Lexed.TheVariants.{One, Two}
+use Rattle.std.specs.Prelude.{Ok, Err}
 use Rattle.instruction.specs.Instruction.{instruction_of}
 use Rattle.lex.specs.Token.{Bytes, Token, token, read_token, VERIFY}
-use Rattle.lex.specs.Script.{script_limit, Outcome, tokens, refused, and_then, after, instructions, lex_of, numbers, table_of, answer_of, Lexes}
-use Rattle.lex.specs.Room.{sizes_for, room_for, room_of}
+use Rattle.lex.specs.Script.{Answer, numbers_of, refusal, script_limit, Outcome, tokens, refused, and_then, after, instructions, lex_of, numbers, table_of, answer_of, Lexes}
+use Rattle.lex.specs.Room.{Ample, sizes_for, room_for, room_of}
 use Rattle.lex.proofs.ScanLaws.{opened, limit_low}
 use Rattle.instruction.proofs.SizeLaws.{one_fits, two_fits}
 use Rattle.lex.proofs.FillLaws.{tokens_strided}
@@ -53,17 +51,17 @@ module _ (s : List ℕ) where
   Same : ℕ → ℕ → Type 0
   Same most at = (room other last : ℕ) → at ≤ length s → 2 * (length s - at) ≤ room → 2 * (length s - at) ≤ other → instructions most room at last (drop at s) ≡ instructions most other at last (drop at s)
 
-  step_same : (most at last room other : ℕ) → at < length s → 2 * (length s - at) ≤ room → 2 * (length s - at) ≤ other → ((n : ℕ) → Same most (at + n)) → (x : Lexed) → instruction_of (drop at s) last ≡ x
+  step_same : (most at last room other : ℕ) → at < length s → 2 * (length s - at) ≤ room → 2 * (length s - at) ≤ other → ((n : ℕ) → Same most (at + n)) → (x : Lexing) → instruction_of (drop at s) last ≡ x
       → after room at x (λ left n code. instructions most left (at + n) code (drop (at + n) s)) ≡ after other at x (λ left n code. instructions most left (at + n) code (drop (at + n) s))
   unfolding Same
-  step_same most at last room other h a b rest (One c n v) e =
+  step_same most at last room other h a b rest (Ok (One c n v)) e =
       let f : (1 ≤ n) × (n ≤ length s - at) = one_fits s at last h (sym e) c v n refl in
       simp (le-leb 1 room (omega arith), le-leb 1 other (omega arith)) (ap (and_then (token c v at)) (rest n (room - 1) (other - 1) c (omega arith) (omega arith) (omega arith)))
-  step_same most at last room other h a b rest (Two c n) e =
+  step_same most at last room other h a b rest (Ok (Two c n)) e =
       let f : (1 ≤ n) × (n ≤ length s - at) = two_fits s at last h (sym e) c n refl in
       simp (le-leb 2 room (omega arith), le-leb 2 other (omega arith))
       (ap (λ (o : Outcome). and_then (token c 0 at) (and_then (token VERIFY 0 at) o)) (rest n (room - 2) (other - 2) VERIFY (omega arith) (omega arith) (omega arith)))
-  step_same most at last room other h a b rest (Refused k) e = refl
+  step_same most at last room other h a b rest (Err k) e = refl
 
   empty_same : (most room other at last : ℕ) → instructions most room at last [] ≡ instructions most other at last []
   empty_same zero room other at last = refl
@@ -93,8 +91,13 @@ pub room_is_lexing : (room : ℕ) (s : List ℕ) → 2 * length s ≤ room → r
 unfolding room_of
 room_is_lexing room s h = ap room_for (sym (ample_room_suffices room s h))
 
+-- how many tokens the sizes are for
+abbrev tokens_in : Ample → ℕ
+tokens_in (Ok s) = s.tokens
+tokens_in (Err e) = 0
+
 sizes_tokens : (o : Outcome) (t : ℕ) → room_for o ≡ sizes_for t → (ts : List Token) × (o ≡ tokens ts) × (length ts ≡ t)
-sizes_tokens (tokens ts) t e = (ts, refl, cc)
+sizes_tokens (tokens ts) t e = (ts, refl, ap tokens_in e)
 sizes_tokens (refused k p) t e = let z : ◌≡◌ {A = ℕ} 0 1 = cc in absurd (omega arith)
 
 -- and the table of the size that `room` names holds them
@@ -119,19 +122,19 @@ module _ (s : List ℕ) (bytes : Bytes s) where
   Tame : ℕ → ℕ → Type 0
   Tame most at = (room last : ℕ) → at ≤ length s → 2 * (length s - at) ≤ room → Inside s (instructions most room at last (drop at s))
 
-  step_tame : (most at last room : ℕ) → at < length s → 2 * (length s - at) ≤ room → ((n : ℕ) → Tame most (at + n)) → (x : Lexed) → instruction_of (drop at s) last ≡ x
+  step_tame : (most at last room : ℕ) → at < length s → 2 * (length s - at) ≤ room → ((n : ℕ) → Tame most (at + n)) → (x : Lexing) → instruction_of (drop at s) last ≡ x
       → Inside s (after room at x (λ left n code. instructions most left (at + n) code (drop (at + n) s)))
   unfolding Tame
-  step_tame most at last room h a rest (One c n v) e =
+  step_tame most at last room h a rest (Ok (One c n v)) e =
       let f : (1 ≤ n) × (n ≤ length s - at) = one_fits s at last h (sym e) c v n refl in
       simp (le-leb 1 room (omega arith)) (inside_then s (token c v at) (instructions most (room - 1) (at + n) c (drop (at + n) s)) (rest n (room - 1) c (omega arith) (omega arith)))
-  step_tame most at last room h a rest (Two c n) e =
+  step_tame most at last room h a rest (Ok (Two c n)) e =
       let f : (1 ≤ n) × (n ≤ length s - at) = two_fits s at last h (sym e) c n refl in
       simp (le-leb 2 room (omega arith))
       (inside_then s (token c 0 at) (and_then (token VERIFY 0 at) (instructions most (room - 2) (at + n) VERIFY (drop (at + n) s)))
       (inside_then s (token VERIFY 0 at) (instructions most (room - 2) (at + n) VERIFY (drop (at + n) s)) (rest n (room - 2) VERIFY (omega arith) (omega arith))))
-  step_tame most at last room h a rest (Refused k) e =
-      let l : (2 ≤ k) × (k ≤ 7) = subst Low e (low_instruction (drop at s) last (bytes_drop at s bytes)) in
+  step_tame most at last room h a rest (Err k) e =
+      let l : (2 ≤ error_number k) × (error_number k ≤ 7) = subst Low e (low_instruction (drop at s) last (bytes_drop at s bytes)) in
       (l.0, l.1, h)
 
   empty_tame : (most room at last : ℕ) → Inside s (instructions most room at last [])
@@ -235,16 +238,18 @@ tokens_newest_first size ts =
     newest_same (token_at ts) (read_token (table_of size (tokens ts))) (length ts) (λ i h. token_at_lem size ts i h) ∙ newest_reverse ts (token 0 0 0)
 
 -- the answer says which outcome it was
-pub answered_tokens : (room n : ℕ) (s : List ℕ) → answer.Tokens n ≡ answer_of (lex_of room s) → (ts : List Token) × (lex_of room s ≡ tokens ts) × (length ts ≡ n)
+pub answered_tokens : (room n : ℕ) (s : List ℕ) → Ok n ≡ answer_of (lex_of room s) → (ts : List Token) × (lex_of room s ≡ tokens ts) × (length ts ≡ n)
 answered_tokens room n s e = of (lex_of room s) e
   where
-    of : (o : Outcome) → answer.Tokens n ≡ answer_of o → (ts : List Token) × (o ≡ tokens ts) × (length ts ≡ n)
+    of : (o : Outcome) → Ok n ≡ answer_of o → (ts : List Token) × (o ≡ tokens ts) × (length ts ≡ n)
     of (tokens ts) p = (ts, refl, cc)
     of (refused k q) p = let z : ◌≡◌ {A = ℕ} 0 1 = cc in absurd (omega arith)
 
-pub answered_refused : (room k p : ℕ) (s : List ℕ) → answer.Refused k p ≡ answer_of (lex_of room s) → lex_of room s ≡ refused k p
+pub answered_refused : (room k p : ℕ) (s : List ℕ) → Err (refusal k p) ≡ answer_of (lex_of room s) → lex_of room s ≡ refused k p
 answered_refused room k p s e = of (lex_of room s) e
   where
-    of : (o : Outcome) → answer.Refused k p ≡ answer_of o → o ≡ refused k p
+    of : (o : Outcome) → Err (refusal k p) ≡ answer_of o → o ≡ refused k p
     of (tokens ts) q = let z : ◌≡◌ {A = ℕ} 0 1 = cc in absurd (omega arith)
-    of (refused k' p') q = cc
+    of (refused k' p') q =
+        ap (λ (n : ℕ). refused n p') (sym (ap (λ (a : Answer). (numbers_of a).number) q))
+        ∙ ap (refused k) (sym (ap (λ (a : Answer). (numbers_of a).place) q))

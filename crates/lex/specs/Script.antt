@@ -1,11 +1,11 @@
 -- A whole script's tokens or its refusal, and what the lent table holds: document 01, "Bytes to tokens" and "When the desk says no" (numbers 1 to 8).
-use Rattle.std.specs.Prelude.{◌≡◌, List, [], ◌∷◌, ◌++◌, map, ℕ, zero, suc, ◌+◌, ◌-◌, ◌*◌, ◌/◌, leb, length, drop}
+use Rattle.std.specs.Prelude.{◌≡◌, Result, Ok, Err, List, [], ◌∷◌, ◌++◌, map, ℕ, zero, suc, ◌+◌, ◌-◌, ◌*◌, ◌/◌, leb, length, drop}
 use Rattle.tables.specs.Choose.{pick}
 use Rattle.tables.specs.Tables.{zeros, flat}
+use Rattle.instruction.specs.Error.{error_number, Lexing}
 use Rattle.instruction.specs.declared.Lexed.{Lexed}
-use Rattle.instruction.specs.declared.Lexed.TheVariants.{One, Two, Refused}
-use Rattle.lex.specs.declared.Answer.{Answer}
-use Rattle.lex.specs.declared.Answer.TheVariants as answer
+use Rattle.instruction.specs.declared.Lexed.TheVariants.{One, Two}
+use Rattle.lex.specs.declared.Refused.{Refused}
 use Rattle.lex.specs.Token.{Token, token, VERIFY}
 use Rattle.instruction.specs.Instruction.{instruction_of}
 
@@ -23,11 +23,11 @@ and_then t (tokens ts) = tokens (t ∷ ts)
 and_then t (refused number place) = refused number place
 
 -- one instruction at `at`, with room for so many tokens more: 8 if its tokens don't all fit. onward is what follows it, by the room left, the instruction's size and the code of its last token
-abbrev pub after : ℕ → ℕ → Lexed → (ℕ → ℕ → ℕ → Outcome) → Outcome
-after room at (One code size number) onward = pick (leb 1 room) (and_then (token code number at) (onward (room - 1) size code)) (refused 8 at)
-after room at (Two code size) onward =
+abbrev pub after : ℕ → ℕ → Lexing → (ℕ → ℕ → ℕ → Outcome) → Outcome
+after room at (Ok (One code size number)) onward = pick (leb 1 room) (and_then (token code number at) (onward (room - 1) size code)) (refused 8 at)
+after room at (Ok (Two code size)) onward =
     pick (leb 2 room) (and_then (token code 0 at) (and_then (token VERIFY 0 at) (onward (room - 2) size VERIFY))) (refused 8 at)
-after room at (Refused number) onward = refused number at
+after room at (Err e) onward = refused (error_number e) at
 
 -- the instructions of rest, which starts at `at`, after a token with the code `last`: at most so many, and no script has more of them than bytes
 abbrev pub instructions : ℕ → ℕ → ℕ → ℕ → List ℕ → Outcome
@@ -49,10 +49,21 @@ abbrev pub table_of : ℕ → Outcome → List ℕ
 table_of size (tokens ts) = flat (map numbers ts) ++ zeros (size - 3 * length ts)
 table_of size (refused number place) = zeros size
 
--- what `lex` answers
+-- what an instruction at a place gives, with the place of a refusal
+abbrev pub placed : ℕ → Lexing → Result Lexed Refused
+placed at (Ok x) = Ok x
+placed at (Err e) = Err (record { number = error_number e; place = at })
+
+-- what `lex` answers: how many tokens there are, or a refusal
+abbrev pub Answer : Type 0
+Answer = Result ℕ Refused
+
+abbrev pub refusal : ℕ → ℕ → Refused
+refusal number place = record { number = number; place = place }
+
 abbrev pub answer_of : Outcome → Answer
-answer_of (tokens ts) = answer.Tokens (length ts)
-answer_of (refused number place) = answer.Refused number place
+answer_of (tokens ts) = Ok (length ts)
+answer_of (refused number place) = Err (refusal number place)
 
 -- document 01's number, place and tokens of an answer
 pub record Numbers : Type 0 where
@@ -61,8 +72,8 @@ pub record Numbers : Type 0 where
   pub tokens : ℕ
 
 abbrev pub numbers_of : Answer → Numbers
-numbers_of (answer.Tokens n) = record { number = 0; place = 0; tokens = n }
-numbers_of (answer.Refused k p) = record { number = k; place = p; tokens = 0 }
+numbers_of (Ok n) = record { number = 0; place = 0; tokens = n }
+numbers_of (Err e) = record { number = e.number; place = e.place; tokens = 0 }
 
 -- the contract of `lex`: from the script and the length of the table at entry alone, the answer and the whole table at exit
 abbrev pub Lexes : List ℕ → ℕ → Answer → List ℕ → Type 0

@@ -1,11 +1,12 @@
 // Bytes to tokens: lex.rs over one lent token table, with document 01's numbers and places.
 #![tactic(auto)]
 
-ghost use Rattle.std.specs.Prelude.{◌≡◌, ◌+◌, ◌*◌, ◌/◌, ◌≤◌, ◌<◌, leb, length};
+ghost use Rattle.std.specs.Prelude.{◌≡◌, ◌+◌, ◌*◌, ◌/◌, ◌≤◌, ◌<◌, length, drop};
 ghost use Rattle.tables.specs.Tables.{zeros, put_at};
 ghost use Rattle.lex.specs.Token.{token};
-ghost use Rattle.lex.specs.Script.{script_limit, lex_of, answer_of, numbers, Lexes, Fills};
-ghost use Rattle.lex.specs.Room.{sizes_for, room_of};
+ghost use Rattle.lex.specs.Script.{placed, refusal, script_limit, lex_of, answer_of, numbers, Lexes, Fills};
+ghost use Rattle.lex.specs.Room.{room_of};
+ghost use Rattle.instruction.specs.Instruction.{instruction_of};
 
 pub use instruction::token;
 use instruction::{Lexed, instruction};
@@ -13,33 +14,34 @@ use instruction::{Lexed, instruction};
 // The most bytes that a script may have.
 pub const SCRIPT_LIMIT: usize = 10000;
 
-// What lexing a script answers: how many tokens it has, or document 01's number and place.
-#[derive(Clone, Copy)]
-pub enum Answer {
-    Tokens(usize),
-    Refused { number: u32, place: usize },
+// Document 01's number of a refusal, and its place in the script.
+#[derive(Clone, Copy, Debug, PartialEq, Eq)]
+pub struct Refused {
+    pub number: u32,
+    pub place: usize,
 }
 
-// The sizes of tables that are ample for a script, or what lexing it refuses.
-#[derive(Clone, Copy)]
-pub enum Ample {
-    Sizes {
-        tokens: usize,
-        nodes: usize,
-        keys: usize,
-        work: usize,
-    },
-    Refused {
-        number: u32,
-        place: usize,
-    },
-}
-
-// Whether a script of n bytes is short enough to be read.
-fn within_limit(n: usize) -> bool
-    ensures { result ≡ leb n script_limit }
+fn refuse(number: u32, place: usize) -> Refused
+    ensures { result ≡ refusal number place }
 {
-    n <= SCRIPT_LIMIT
+    Refused { number, place }
+}
+
+// Sizes of tables that are ample for a script.
+#[derive(Clone, Copy, Debug, PartialEq, Eq)]
+pub struct Sizes {
+    pub tokens: usize,
+    pub nodes: usize,
+    pub keys: usize,
+    pub work: usize,
+}
+
+// The instruction at `at`, after a token with the code `last`. A refusal has its place.
+fn instruction_at(s: &[u8], at: usize, last: u32) -> Result<Lexed, Refused>
+    requires { at ≤ length s.now }
+    ensures { result ≡ placed at (instruction_of (drop at s.now) last) }
+{
+    instruction(&s[at..], last).map_err(|error| refuse(error.number(), at))
 }
 
 // The n-th token of a table.
@@ -54,7 +56,7 @@ fn put(t: &mut [u32], n: usize, code: u32, number: u32, place: u32)
 }
 
 // The tokens of a script that is short enough, at the front of a cleared table. After a refusal it holds what came before.
-fn fill(s: &[u8], t: &mut [u32]) -> Answer
+fn fill(s: &[u8], t: &mut [u32]) -> Result<usize, Refused>
     requires { (length s.now ≤ script_limit) × (t.old ≡ zeros (length t.old)) }
     ensures { (result ≡ answer_of (lex_of (length t.old / 3) s.now)) × Fills (length t.old) (lex_of (length t.old / 3) s.now) t.new }
 {
@@ -63,11 +65,11 @@ fn fill(s: &[u8], t: &mut [u32]) -> Answer
     let mut n = 0;
     let mut last: u32 = 0;
     while at < s.len() {
-        let got = instruction(s, at, last);
+        let got = instruction_at(s, at, last)?;
         match got {
             Lexed::One { code, size, number } => {
                 if room - n < 1 {
-                    return refused(8, at);
+                    return Err(refuse(8, at));
                 }
                 put(t, n, code, number, at as u32);
                 last = code;
@@ -76,7 +78,7 @@ fn fill(s: &[u8], t: &mut [u32]) -> Answer
             }
             Lexed::Two { code, size } => {
                 if room - n < 2 {
-                    return refused(8, at);
+                    return Err(refuse(8, at));
                 }
                 put(t, n, code, 0, at as u32);
                 put(t, n + 1, token::VERIFY, 0, at as u32);
@@ -84,88 +86,56 @@ fn fill(s: &[u8], t: &mut [u32]) -> Answer
                 n += 2;
                 at += size;
             }
-            Lexed::Refused(number) => return refused(number, at),
         }
     }
-    Answer::Tokens(n)
-}
-
-fn refused(number: u32, place: usize) -> Answer
-    ensures { result ≡ Answer.Refused number place }
-{
-    Answer::Refused { number, place }
-}
-
-// A refusal, with the table cleared again.
-fn refuse(table: &mut [u32], number: u32, place: usize) -> Answer
-    ensures { (result ≡ Answer.Refused number place) × (table.new ≡ zeros (length table.old)) }
-{
-    tables::clear(table);
-    refused(number, place)
+    Ok(n)
 }
 
 // The tokens of a script, three numbers each, at the front of a table and zeros behind; zeros throughout after a refusal.
-pub fn lex(s: &[u8], t: &mut [u32]) -> Answer
+#[tactic(auto, using(crate::proofs::FillLaws::lex_long), unfolding(crate::specs::Script::script_limit, crate::specs::Script::lex_of))]
+pub fn lex(s: &[u8], t: &mut [u32]) -> Result<usize, Refused>
     ensures { Lexes s.now (length t.old) result t.new }
 {
     tables::clear(t);
-    if !within_limit(s.len()) {
-        return refused(1, 0);
+    if SCRIPT_LIMIT < s.len() {
+        return Err(refuse(1, 0));
     }
     let answer = fill(s, t);
-    match answer {
-        Answer::Tokens(n) => Answer::Tokens(n),
-        Answer::Refused { number, place } => refuse(t, number, place),
+    if answer.is_err() {
+        tables::clear(t);
     }
-}
-
-fn sizes(t: usize) -> Ample
-    requires { t < 4294967296 }
-    ensures { result ≡ sizes_for t }
-{
-    Ample::Sizes {
-        tokens: t,
-        nodes: 2 * t,
-        keys: t,
-        work: 8 * t + 2,
-    }
-}
-
-fn no_room(number: u32, place: usize) -> Ample
-    ensures { result ≡ Ample.Refused number place }
-{
-    Ample::Refused { number, place }
+    answer
 }
 
 // The sizes that are ample for a script, by one scan without any table.
-pub fn room(s: &[u8]) -> Ample
+pub fn room(s: &[u8]) -> Result<Sizes, Refused>
     ensures { result ≡ room_of s.now }
 {
-    if !within_limit(s.len()) {
-        return no_room(1, 0);
+    if SCRIPT_LIMIT < s.len() {
+        return Err(refuse(1, 0));
     }
     let mut at = 0;
     let mut n = 0;
     let mut last: u32 = 0;
     while at < s.len() {
-        let got = instruction(s, at, last);
+        let got = instruction_at(s, at, last)?;
         match got {
-            Lexed::One {
-                code,
-                size,
-                number: _,
-            } => {
+            Lexed::One { code, size, .. } => {
                 last = code;
                 n += 1;
                 at += size;
             }
-            Lexed::Two { code: _, size } => {
+            Lexed::Two { size, .. } => {
                 last = token::VERIFY;
                 n += 2;
                 at += size;
             }
-            Lexed::Refused(number) => return no_room(number, at),
         }
     }
-    sizes(n)
+    Ok(Sizes {
+        tokens: n,
+        nodes: 2 * n,
+        keys: n,
+        work: 8 * n + 2,
+    })
 }

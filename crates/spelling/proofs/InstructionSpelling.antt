@@ -13,10 +13,10 @@ use Rattle.tables.specs.Choose.{pick}
 use Rattle.tables.proofs.BoolLaws.{picked_both}
 use Rattle.instruction.specs.declared.Op.{Op}
 use Rattle.instruction.specs.declared.Op.TheVariants.{Push, Sized, Num, One, Fused, Verify, Unlisted}
-use Rattle.instruction.specs.declared.Number.{Number}
-use Rattle.instruction.specs.declared.Number.TheVariants.{Is, NotMinimal, Negative}
-use Rattle.instruction.specs.declared.Lexed.{Lexed}
+use Rattle.instruction.specs.Error.{Lexing, Number}
 use Rattle.instruction.specs.declared.Lexed.TheVariants as gives
+use Rattle.std.specs.Prelude.{Ok, Err}
+use Rattle.instruction.specs.declared.Error.TheVariants as error
 use Rattle.lex.specs.Token.{Bytes, token, Lexeme, op, num, push, data_length, data_at, lexeme, VERIFY}
 use Rattle.instruction.specs.Opcode.{op_of, ranged}
 use Rattle.instruction.specs.Number.{little_endian, number_of}
@@ -82,18 +82,18 @@ module _ (s : List ℕ) (at last : ℕ) (bytes : Bytes s) (here : at < length s)
   some = omega (arith, length-drop at s)
 
   -- an accepted instruction is its lexeme's spelling; VERIFY stands only where the rule lets it
-  abbrev pub Canonical : Lexed → Type 0
-  Canonical (gives.One c n v) = (take n (drop at s) ≡ instruction_bytes (lexeme s (token c v at))) × Formed (lexeme s (token c v at)) × (c ≡ VERIFY → verify_refused last ≡ false)
-  Canonical (gives.Two c n) = (take n (drop at s) ≡ fused_byte c ∷ []) × (has_fused c ≡ true)
-  Canonical (gives.Refused k) = Unit {0}
+  abbrev pub Canonical : Lexing → Type 0
+  Canonical (Ok (gives.One c n v)) = (take n (drop at s) ≡ instruction_bytes (lexeme s (token c v at))) × Formed (lexeme s (token c v at)) × (c ≡ VERIFY → verify_refused last ≡ false)
+  Canonical (Ok (gives.Two c n)) = (take n (drop at s) ≡ fused_byte c ∷ []) × (has_fused c ≡ true)
+  Canonical (Err k) = Unit {0}
 
-  by_lexeme : (l : Lexeme) (c v n : ℕ) → lexeme s (token c v at) ≡ l → take n (drop at s) ≡ instruction_bytes l → Formed l → (c ≡ VERIFY → verify_refused last ≡ false) → Canonical (gives.One c n v)
+  by_lexeme : (l : Lexeme) (c v n : ℕ) → lexeme s (token c v at) ≡ l → take n (drop at s) ≡ instruction_bytes l → Formed l → (c ≡ VERIFY → verify_refused last ≡ false) → Canonical (Ok (gives.One c n v))
   by_lexeme l c v n e t f w = (t ∙ ap instruction_bytes (sym e), subst Formed (sym e) f, w)
 
-  byte_op : (c : ℕ) → get_or rest 0 0 ≡ opcode_byte c → 1 ≤ c → c ≤ 27 → (c ≡ VERIFY → verify_refused last ≡ false) → Canonical (gives.One c 1 0)
+  byte_op : (c : ℕ) → get_or rest 0 0 ≡ opcode_byte c → 1 ≤ c → c ≤ 27 → (c ≡ VERIFY → verify_refused last ≡ false) → Canonical (Ok (gives.One c 1 0))
   byte_op c e l h w = by_lexeme (op c) c 0 1 (lexeme_op s c 0 at h) (front_one rest some ∙ ap (λ (b : ℕ). b ∷ []) e) (l, h) w
 
-  byte_num : (n : ℕ) → get_or rest 0 0 ≡ 0x50 + n → 1 ≤ n → n ≤ 16 → Canonical (gives.One 28 1 n)
+  byte_num : (n : ℕ) → get_or rest 0 0 ≡ 0x50 + n → 1 ≤ n → n ≤ 16 → Canonical (Ok (gives.One 28 1 n))
   unfolding number_bytes
   byte_num n e l h =
       by_lexeme (num n) 28 n 1 (lexeme_num s n at)
@@ -114,7 +114,7 @@ module _ (s : List ℕ) (at last : ℕ) (bytes : Bytes s) (here : at < length s)
     written : take (1 + n) rest ≡ push_bytes (take n (drop 1 rest))
     written = front n rest some ∙ ap (λ (b : ℕ). b ∷ take n (drop 1 rest)) (first ∙ sym part_length)
 
-    data_canonical : (c : ℕ) → n ≡ data_length c → lexeme s (token c 0 at) ≡ push c (data_at s (at + 1) (data_length c)) → 29 ≤ c → c ≤ 32 → Canonical (gives.One c (1 + n) 0)
+    data_canonical : (c : ℕ) → n ≡ data_length c → lexeme s (token c 0 at) ≡ push c (data_at s (at + 1) (data_length c)) → 29 ≤ c → c ≤ 32 → Canonical (Ok (gives.One c (1 + n) 0))
     data_canonical c e p l h =
         let d : take (data_length c) (drop (at + 1) s) ≡ take n (drop 1 rest) = ap (λ (k : ℕ). take k (drop (at + 1) s)) (sym e) ∙ part_is in
         by_lexeme (push c (data_at s (at + 1) (data_length c))) c 0 (1 + n) p
@@ -123,13 +123,12 @@ module _ (s : List ℕ) (at last : ℕ) (bytes : Bytes s) (here : at < length s)
         (λ z. absurd (omega arith))
 
     number_canonical : (w : Number) → number_of (take n (drop 1 rest)) ≡ w → n ≤ 4 → (n ≡ 1 → small (get_or rest 1 0) ≡ false) → Canonical (numbered w (1 + n))
-    number_canonical (Is v) e h none =
+    number_canonical (Ok v) e h none =
         let r : (push_bytes (take n (drop 1 rest)) ≡ number_bytes v) × (v < 2147483648) =
         number_is_spelled (take n (drop 1 rest)) v (omega (arith, part_length)) (bytes_take n (drop 1 rest) (bytes_drop 1 rest (bytes_drop at s bytes)))
         (λ z. let o : n ≡ 1 = sym part_length ∙ z in ap small (get_or-take n (drop 1 rest) 0 0 (omega arith) ∙ get_or-drop 1 rest 0 0) ∙ none o) e in
         by_lexeme (num v) 28 v (1 + n) (lexeme_num s v at) (written ∙ r.0) r.1 (λ z. absurd (omega arith))
-    number_canonical NotMinimal e h none = tt
-    number_canonical Negative e h none = tt
+    number_canonical (Err x) e h none = tt
 
     pushed_canonical : (n ≡ 1 → small (get_or rest 1 0) ≡ false) → Canonical (pushed (take n (drop 1 rest)) n (1 + n))
     unfolding pushed lexeme data_length

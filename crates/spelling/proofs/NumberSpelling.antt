@@ -10,19 +10,20 @@ use borrow.Author.Tests.{eq-eqb, ne_eqb, le-leb, lt-leb, lt-ltb, le-ltb, eqb-fal
 use lib.Dec.{eqb, leb, ltb}
 use lib.ListN.{length, get_or}
 use Rattle.tables.specs.Choose.{pick}
-use Rattle.instruction.specs.declared.Number.TheVariants.{Is, NotMinimal, Negative}
+use Rattle.std.specs.Prelude.{Ok, Err}
+use Rattle.instruction.specs.declared.Error.TheVariants as error
 use Rattle.lex.specs.Token.{Bytes}
 use Rattle.instruction.specs.Number.{little_endian, last_byte, minimal, number_of}
 use Rattle.instruction.specs.Push.{small}
 use Rattle.spelling.specs.Spell.{push_bytes, digits, number_bytes}
 
 -- what a number that is read is
-number_pick : (m n : Bool) (u v : ℕ) → pick m (pick n Negative (Is u)) NotMinimal ≡ Is v → (m ≡ true) × (n ≡ false) × (u ≡ v)
+number_pick : (m n : Bool) (u v : ℕ) → pick m (pick n (Err error.NegativeInt) (Ok u)) (Err error.InvalidInt) ≡ Ok v → (m ≡ true) × (n ≡ false) × (u ≡ v)
 number_pick true true u v e = let z : ◌≡◌ {A = ℕ} 0 1 = cc in absurd (omega arith)
 number_pick true false u v e = (refl, refl, cc)
 number_pick false n u v e = let z : ◌≡◌ {A = ℕ} 0 1 = cc in absurd (omega arith)
 
-number_read : (d : List ℕ) (v : ℕ) → number_of d ≡ Is v → (minimal d ≡ true) × (leb 128 (last_byte d) ≡ false) × (little_endian d ≡ v)
+number_read : (d : List ℕ) (v : ℕ) → number_of d ≡ Ok v → (minimal d ≡ true) × (leb 128 (last_byte d) ≡ false) × (little_endian d ≡ v)
 unfolding number_of
 number_read d v e = number_pick (minimal d) (leb 128 (last_byte d)) (little_endian d) v e
 
@@ -117,7 +118,7 @@ zero_spelled : (w : ℕ) → 0 ≡ w → 0 ∷ [] ≡ number_bytes w
 unfolding number_bytes
 zero_spelled w q = ap number_bytes q
 
-pub number_is_spelled : (d : List ℕ) (v : ℕ) → length d ≤ 4 → Bytes d → (length d ≡ 1 → small (get_or d 0 0) ≡ false) → number_of d ≡ Is v → (push_bytes d ≡ number_bytes v) × (v < 2147483648)
+pub number_is_spelled : (d : List ℕ) (v : ℕ) → length d ≤ 4 → Bytes d → (length d ≡ 1 → small (get_or d 0 0) ≡ false) → number_of d ≡ Ok v → (push_bytes d ≡ number_bytes v) × (v < 2147483648)
 number_is_spelled d v l b s e = by d l b s (number_read d v e)
   where
     by : (d : List ℕ) → length d ≤ 4 → Bytes d → (length d ≡ 1 → small (get_or d 0 0) ≡ false) → (minimal d ≡ true) × (leb 128 (last_byte d) ≡ false) × (little_endian d ≡ v) → (push_bytes d ≡ number_bytes v) × (v < 2147483648)
@@ -144,15 +145,15 @@ pub record Reads (v : ℕ) (d : List ℕ) : Type 0 where
   pub few : length d ≤ 4
   pub bytes : Bytes d
   pub no_opcode : length d ≡ 1 → small (get_or d 0 0) ≡ false
-  pub read : number_of d ≡ Is v
+  pub read : number_of d ≡ Ok v
 
 not_small : (a : ℕ) → 17 ≤ a → a < 128 → small a ≡ false
 unfolding small
 not_small a l h = simp (ne_eqb a 0x81 (λ e. omega arith), le-leb 1 a (omega arith), lt-leb a 16 (omega arith))
 
-read_is : (d : List ℕ) (v : ℕ) → minimal d ≡ true → last_byte d < 128 → little_endian d ≡ v → number_of d ≡ Is v
+read_is : (d : List ℕ) (v : ℕ) → minimal d ≡ true → last_byte d < 128 → little_endian d ≡ v → number_of d ≡ Ok v
 unfolding number_of
-read_is d v m h e = simp (m, lt-leb 128 (last_byte d) h) (ap Is e)
+read_is d v m h e = simp (m, lt-leb 128 (last_byte d) h) (ap Ok e)
 
 last_counts : (b : ℕ) (t : Bool) → (b % 128 ≡ 0 → ⊥) → pick (eqb (b % 128) 0) t true ≡ true
 last_counts b t h = simp (ne_eqb (b % 128) 0 h)

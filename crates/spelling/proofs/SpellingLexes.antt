@@ -12,11 +12,12 @@ use lib.Seq.{drop-drop, take_at, drop_at}
 use Rattle.tables.specs.Choose.{pick}
 use Rattle.tables.proofs.BoolLaws.{picked_both}
 use Rattle.tables.specs.Tables.{flat}
+use Rattle.instruction.specs.Error.{Number}
 use Rattle.instruction.specs.declared.Op.{Op}
 use Rattle.instruction.specs.declared.Op.TheVariants.{Push, Sized, Num, One, Fused, Verify, Unlisted}
-use Rattle.instruction.specs.declared.Number.{Number}
-use Rattle.instruction.specs.declared.Number.TheVariants.{Is}
 use Rattle.instruction.specs.declared.Lexed.TheVariants as gives
+use Rattle.std.specs.Prelude.{Ok, Err}
+use Rattle.instruction.specs.declared.Error.TheVariants as error
 use Rattle.lex.specs.Token.{Token, token, Lexeme, op, num, push, data_length, data_at, lexeme, bare, VERIFY, NUM}
 use Rattle.instruction.specs.Opcode.{op_of, ranged}
 use Rattle.instruction.specs.Number.{minimal, number_of}
@@ -145,14 +146,14 @@ push_read d r last h n =
     ∙ simp (no_opcode d r n, le-leb (1 + length d) (suc (length (d ++ r))) (omega (arith, length-append d r)), take_at d r (length d) refl)
 
 -- by the code of a push
-data_token : (c : ℕ) (d : List ℕ) (all : ℕ) → 29 ≤ c → c ≤ 32 → pushed d (data_length c) all ≡ gives.One c all 0
+data_token : (c : ℕ) (d : List ℕ) (all : ℕ) → 29 ≤ c → c ≤ 32 → pushed d (data_length c) all ≡ Ok (gives.One c all 0)
 unfolding pushed data_length
 data_token c d all l h = by (eqb c 29) (eqb c 30) (eqb c 31) refl refl refl
   where
-    at_code : (k : ℕ) → c ≡ k → pushed d (data_length k) all ≡ gives.One k all 0 → pushed d (data_length c) all ≡ gives.One c all 0
-    at_code k e p = subst (λ (j : ℕ). pushed d (data_length j) all ≡ gives.One j all 0) (sym e) p
+    at_code : (k : ℕ) → c ≡ k → pushed d (data_length k) all ≡ Ok (gives.One k all 0) → pushed d (data_length c) all ≡ Ok (gives.One c all 0)
+    at_code k e p = subst (λ (j : ℕ). pushed d (data_length j) all ≡ Ok (gives.One j all 0)) (sym e) p
 
-    by : (x y z : Bool) → eqb c 29 ≡ x → eqb c 30 ≡ y → eqb c 31 ≡ z → pushed d (data_length c) all ≡ gives.One c all 0
+    by : (x y z : Bool) → eqb c 29 ≡ x → eqb c 30 ≡ y → eqb c 31 ≡ z → pushed d (data_length c) all ≡ Ok (gives.One c all 0)
     by true y z p q r = at_code 29 (eqb-true c 29 p) refl
     by false true z p q r = at_code 30 (eqb-true c 30 q) refl
     by false false true p q r = at_code 31 (eqb-true c 31 r) refl
@@ -178,9 +179,9 @@ token_of (push c d) at = token c 0 at
 
 -- the token of a lexeme, as its instruction gives it
 abbrev Single : Lexeme → List ℕ → ℕ → Type 0
-Single l r last = instruction_of (instruction_bytes l ++ r) last ≡ gives.One (token_of l 0).code (length (instruction_bytes l)) (token_of l 0).number
+Single l r last = instruction_of (instruction_bytes l ++ r) last ≡ Ok (gives.One (token_of l 0).code (length (instruction_bytes l)) (token_of l 0).number)
 
-zero_number : (r : List ℕ) (last : ℕ) → instruction_of (0x00 ∷ r) last ≡ gives.One NUM 1 0
+zero_number : (r : List ℕ) (last : ℕ) → instruction_of (0x00 ∷ r) last ≡ Ok (gives.One NUM 1 0)
 unfolding pushed minimal number_of
 zero_number r last = push_read [] r last (omega arith) (λ e. absurd (omega arith))
 
@@ -198,26 +199,26 @@ few_pushed d n all w h e =
     simp (ne_eqb n 20 (λ q. omega arith), ne_eqb n 32 (λ q. omega arith), ne_eqb n 33 (λ q. omega arith), ne_eqb n 65 (λ q. omega arith), le-leb n 4 h)
     (ap (λ (x : Number). numbered x all) e)
 
-digits_lex : (n : ℕ) (d r : List ℕ) (last : ℕ) → Reads n d → instruction_of (push_bytes d ++ r) last ≡ gives.One NUM (length (push_bytes d)) n
+digits_lex : (n : ℕ) (d r : List ℕ) (last : ℕ) → Reads n d → instruction_of (push_bytes d ++ r) last ≡ Ok (gives.One NUM (length (push_bytes d)) n)
 digits_lex n d r last i =
     let f : length d ≤ 4 = i.few in
     let z : 1 + length d ≡ suc (length d) = omega arith in
-    push_read d r last (omega arith) i.no_opcode ∙ few_pushed d (length d) (1 + length d) (Is n) f i.read ∙ ap (λ (k : ℕ). gives.One NUM k n) z
+    push_read d r last (omega arith) i.no_opcode ∙ few_pushed d (length d) (1 + length d) (Ok n) f i.read ∙ ap (λ (k : ℕ). Ok (gives.One NUM k n)) z
 
 number_lexes : (n : ℕ) (r : List ℕ) (last : ℕ) → n < 2147483648 → Single (num n) r last
 number_lexes n r last h = by (eqb n 0) (leb n 16) refl refl
   where
     by : (x y : Bool) → eqb n 0 ≡ x → leb n 16 ≡ y → Single (num n) r last
-    by true y p q = subst (λ (k : ℕ). Single (num k) r last) (sym (eqb-true n 0 p)) (subst (λ (b : List ℕ). instruction_of (b ++ r) last ≡ gives.One NUM (length b) 0) zero_bytes (zero_number r last))
+    by true y p q = subst (λ (k : ℕ). Single (num k) r last) (sym (eqb-true n 0 p)) (subst (λ (b : List ℕ). instruction_of (b ++ r) last ≡ Ok (gives.One NUM (length b) 0)) zero_bytes (zero_number r last))
     by false true p q =
         let a : n ≡ 0 → ⊥ = eqb-false n 0 p in
         let b : n ≤ 16 = leb-true n 16 q in
-        subst (λ (b : List ℕ). instruction_of (b ++ r) last ≡ gives.One NUM (length b) n) (small_bytes n a b)
+        subst (λ (b : List ℕ). instruction_of (b ++ r) last ≡ Ok (gives.One NUM (length b) n)) (small_bytes n a b)
         (asked (0x50 + n) last r (Num n) (number_asks n (omega arith) b))
     by false false p q =
         let b : 16 < n = leb-false n 16 q in
         let d : (d : List ℕ) × Reads n d = spelled_is_read n (omega arith) h in
-        subst (λ (b : List ℕ). instruction_of (b ++ r) last ≡ gives.One NUM (length b) n) (sym d.1.spelled) (digits_lex n d.0 r last d.1)
+        subst (λ (b : List ℕ). instruction_of (b ++ r) last ≡ Ok (gives.One NUM (length b) n)) (sym d.1.spelled) (digits_lex n d.0 r last d.1)
 
 -- a lexeme's instruction gives its token, but for a VERIFY that the rule refuses
 lexeme_lexes : (l : Lexeme) (r : List ℕ) (last : ℕ) → Formed l → (is_verify l ≡ true → verify_refused last ≡ false) → Single l r last
@@ -226,7 +227,7 @@ lexeme_lexes (op c) r last f w = by (eqb c VERIFY) refl
     by : (b : Bool) → eqb c VERIFY ≡ b → Single (op c) r last
     by true e =
         subst (λ (k : ℕ). Single (op k) r last) (sym (eqb-true c VERIFY e))
-        (asked 0x69 last r Verify refl ∙ ap (λ (b : Bool). pick b (gives.Refused 7) (gives.One VERIFY 1 0)) (w e))
+        (asked 0x69 last r Verify refl ∙ ap (λ (b : Bool). pick b (Err error.NonMinimalVerify) (Ok (gives.One VERIFY 1 0))) (w e))
     by false e = asked (opcode_byte c) last r (One c) (opcode_asks c f.0 f.1 (eqb-false c VERIFY e))
 lexeme_lexes (num n) r last f w = number_lexes n r last f
 lexeme_lexes (push c d) r last f w =
@@ -236,7 +237,7 @@ lexeme_lexes (push c d) r last f w =
     push_read d.bytes r last (omega arith) (λ e. absurd (omega arith))
     ∙ ap (λ (n : ℕ). pushed d.bytes n (1 + length d.bytes)) k
     ∙ data_token c d.bytes (1 + length d.bytes) f.0 f.1
-    ∙ ap (λ (k : ℕ). gives.One c k 0) z
+    ∙ ap (λ (k : ℕ). Ok (gives.One c k 0)) z
 
 -- ---- the token's lexeme is the lexeme that was spelled, but for its place
 lexeme_push : (s : List ℕ) (c at : ℕ) → 29 ≤ c → c ≤ 32 → lexeme s (token c 0 at) ≡ push c (data_at s (at + 1) (data_length c))

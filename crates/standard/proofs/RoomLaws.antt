@@ -6,10 +6,12 @@ use Rattle.std.proofs.Common.{◌∙◌, arith, le-leb}
 use Rattle.std.proofs.Math.Bool.{true, false}
 use Rattle.std.proofs.lemmas.List.{length-map}
 use Rattle.lex.specs.Token.{Bytes, Token, Lexeme, lexeme}
-use Rattle.lex.specs.declared.Ample.TheVariants as ample
+use Rattle.std.specs.Prelude.{Ok, Err}
+use Rattle.lex.specs.declared.Refused.{Refused}
 use Rattle.lex.specs.Script as lex
 use Rattle.lex.specs.Script.{lex_of}
-use Rattle.lex.specs.Room.{sizes_for, room_for, room_of}
+use Rattle.lex.specs.Script.{refusal}
+use Rattle.lex.specs.Room.{Ample as Sized, sizes_for, room_for, room_of}
 use Rattle.lex.proofs.Theorems.{tokens_at_most_twice, same_tokens_in_any_room, room_holds_the_tokens}
 use Rattle.tables.specs.Choose.{pick}
 use Rattle.standard.specs.Machine.{Verdict, accepted, refused, Run, decode}
@@ -92,12 +94,19 @@ room_never_refuses kind script t b e =
     let l : length r.0 ≡ t = r.2 in
     ample_by_tokens kind script (lengths_for t) b t r.0 r.1 (omega arith) (omega arith) (omega arith) (omega arith)
 
-refused_of : (o : lex.Outcome) (number place : ℕ) → room_for o ≡ ample.Refused number place → o ≡ lex.refused number place
+-- the number and place of a refusal of `room`
+abbrev numbers_told : Sized → Refused
+numbers_told (Ok sizes) = refusal 0 0
+numbers_told (Err e) = e
+
+refused_of : (o : lex.Outcome) (number place : ℕ) → room_for o ≡ Err (refusal number place) → o ≡ lex.refused number place
 refused_of (lex.tokens ts) number place e = let z : ◌≡◌ {A = ℕ} 0 1 = cc in absurd (omega arith)
-refused_of (lex.refused k p) number place e = let y : k ≡ number = cc in let z : p ≡ place = cc in rw (y, z)
+refused_of (lex.refused k q) number place e =
+    ap (λ (n : ℕ). lex.refused n q) (ap (λ (a : Sized). (numbers_told a).number) e)
+    ∙ ap (lex.refused number) (ap (λ (a : Sized). (numbers_told a).place) e)
 
 -- THEOREM: what `room` refuses, the reader refuses with the same number at the same place, once the kind is known
-pub room_refuses_as_read : (kind : ℕ) (script : List ℕ) (number place : ℕ) → kind ≤ 1 → room_of script ≡ ample.Refused number place
+pub room_refuses_as_read : (kind : ℕ) (script : List ℕ) (number place : ℕ) → kind ≤ 1 → room_of script ≡ Err (refusal number place)
     → outcome_of kind script (ample_for (length script)) ≡ refusing (ample_for (length script)) number 0 place 0 0
 unfolding outcome_of room_of
 room_refuses_as_read kind script number place k e =

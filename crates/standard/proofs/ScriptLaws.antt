@@ -1,8 +1,9 @@
 -- What the lexer's laws say of a script's lexemes: no more pushes than bytes (`pushes_at_most_bytes`), a lexing refusal has a number from 1 to 8 (`lexing_numbers`), a tree that is written with a script's lexemes holds the script's bytes (`tree_of_script`), and the first token stands at place 0 (`first_place`).
 use Rattle.std.specs.Prelude.{◌≡◌, refl, Bool, true, false, List, [], ◌∷◌, ◌++◌, map, ℕ, zero, suc, ◌+◌, ◌-◌, ◌≤◌, eqb, leb, length, drop}
 use Rattle.std.proofs.Common.{sym, arith}
-use Rattle.instruction.specs.declared.Lexed.{Lexed}
-use Rattle.instruction.specs.declared.Lexed.TheVariants.{One, Two, Refused}
+use Rattle.instruction.specs.Error.{Lexing}
+use Rattle.instruction.specs.declared.Lexed.TheVariants.{One, Two}
+use Rattle.std.specs.Prelude.{Ok, Err}
 use Rattle.lex.specs.Token.{Bytes, Token, token, Data, Lexeme, op, num, push, lexeme, data_at, data_length, NUM, HASH20, BYTES65, VERIFY}
 use Rattle.instruction.specs.Instruction.{instruction_of}
 use Rattle.lex.specs.Script as lex
@@ -31,11 +32,11 @@ if_numbered : (b : Bool) (o : lex.Outcome) (k p : ℕ) → Numbered o → (1 ≤
 if_numbered true o k p h g = h
 if_numbered false o k p h g = g
 
-after_numbered : (room at : ℕ) (x : Lexed) (onward : ℕ → ℕ → ℕ → lex.Outcome) → Low x → ((a b c : ℕ) → Numbered (onward a b c)) → Numbered (after room at x onward)
-after_numbered room at (One code size number) onward l h = if_numbered (leb 1 room) _ 8 at (then_numbered (token code number at) (onward (room - 1) size code) (h (room - 1) size code)) (omega arith, omega arith)
-after_numbered room at (Two code size) onward l h =
+after_numbered : (room at : ℕ) (x : Lexing) (onward : ℕ → ℕ → ℕ → lex.Outcome) → Low x → ((a b c : ℕ) → Numbered (onward a b c)) → Numbered (after room at x onward)
+after_numbered room at (Ok (One code size number)) onward l h = if_numbered (leb 1 room) _ 8 at (then_numbered (token code number at) (onward (room - 1) size code) (h (room - 1) size code)) (omega arith, omega arith)
+after_numbered room at (Ok (Two code size)) onward l h =
     if_numbered (leb 2 room) _ 8 at (then_numbered (token code 0 at) (and_then (token VERIFY 0 at) (onward (room - 2) size VERIFY)) (then_numbered (token VERIFY 0 at) (onward (room - 2) size VERIFY) (h (room - 2) size VERIFY))) (omega arith, omega arith)
-after_numbered room at (Refused k) onward l h = (omega (arith, l.0), omega (arith, l.1))
+after_numbered room at (Err k) onward l h = (omega (arith, l.0), omega (arith, l.1))
 
 instructions_numbered : (most room at last : ℕ) (rest : List ℕ) → Bytes rest → Numbered (instructions most room at last rest)
 instructions_numbered zero room at last rest b = tt

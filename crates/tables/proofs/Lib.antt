@@ -2,6 +2,5 @@
 pub mod PutLaws
 pub mod FlatLaws
 pub mod NewestLaws
-pub mod ClearLaws
 pub mod BoolLaws
 pub mod ListLaws

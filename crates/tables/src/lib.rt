@@ -4,26 +4,18 @@
 ghost use Rattle.std.specs.Prelude.{◌≡◌, length};
 ghost use Rattle.tables.specs.Tables.{zeros};
 
-// Zeros throughout, in a table of 32-bit numbers. A plain loop, which the compiler turns into one fill.
+// Zeros throughout, in a table of 32-bit numbers.
 pub fn clear(t: &mut [u32])
     ensures { t.new ≡ zeros (length t.old) }
 {
-    let mut i = 0;
-    while i < t.len() {
-        t[i] = 0;
-        i += 1;
-    }
+    t.fill(0);
 }
 
 // Zeros throughout, in a work table, whose entries are 64-bit numbers.
 pub fn clear_work(work: &mut [u64])
     ensures { work.new ≡ zeros (length work.old) }
 {
-    let mut i = 0;
-    while i < work.len() {
-        work[i] = 0;
-        i += 1;
-    }
+    work.fill(0);
 }
 
 // A number of 32 bits as a length or an index.
