@@ -15,7 +15,7 @@ ghost use Rattle.closing.specs.Verdicts.{verdict, verdict_on};
 ghost use Rattle.closing.specs.Held.{Rooted, fits_from, types_held, pair_held, and_or_held, type_held, Children, formed_held, judged_held, check_held, root_held};
 
 use base_input::both;
-use correctness::{Correctness, ErrorKind};
+use correctness::{Correctness, Typed};
 use judge::{Node, cast, combine, leaf_of, reason, size_at, type_at};
 use node_shape::{Shape, Told, child_count, in_range, shape_of, unused_are_zero, value_refusal};
 
@@ -86,7 +86,7 @@ fn well_formed(s: Shape, n: Node, nodes: &[u32], m: usize, keys: &[u32], materia
 }
 
 // The type of a combination of the two newest trees.
-fn pair_type(nodes: &[u32], m: usize, kind: u32) -> Result<Correctness, ErrorKind>
+fn pair_type(nodes: &[u32], m: usize, kind: u32) -> Typed
     requires m_in_bounds { 9 * m ≤ length nodes.now }
     requires subtrees { Subtrees 2 m nodes.now }
     ensures { result ≡ pair_held nodes.now m kind }
@@ -97,7 +97,7 @@ fn pair_type(nodes: &[u32], m: usize, kind: u32) -> Result<Correctness, ErrorKin
 }
 
 // The type of an and_or of the three newest trees, whose script order is X, Z, Y.
-fn and_or_type(nodes: &[u32], m: usize) -> Result<Correctness, ErrorKind>
+fn and_or_type(nodes: &[u32], m: usize) -> Typed
     requires m_in_bounds { 9 * m ≤ length nodes.now }
     requires subtrees { Subtrees 3 m nodes.now }
     ensures { result ≡ and_or_held nodes.now m }
@@ -114,7 +114,7 @@ fn and_or_type(nodes: &[u32], m: usize) -> Result<Correctness, ErrorKind>
 }
 
 // The type of a thresh of the n newest trees, child by child.
-fn thresh_type(nodes: &[u32], m: usize, n: u32) -> Result<Correctness, ErrorKind>
+fn thresh_type(nodes: &[u32], m: usize, n: u32) -> Typed
     requires m_in_bounds { 9 * m ≤ length nodes.now }
     requires subtrees { Subtrees n m nodes.now }
     ensures { result ≡ threshold (types_held nodes.now n m) }
@@ -125,7 +125,7 @@ fn thresh_type(nodes: &[u32], m: usize, n: u32) -> Result<Correctness, ErrorKind
     while i < n {
         let child = at - 1;
         let answer = Correctness::threshold_child(i, earlier, type_at(nodes, child));
-        let Ok(next) = answer else {
+        let Typed::Is(next) = answer else {
             return answer;
         };
         let child_size = size_at(nodes, child);
@@ -133,11 +133,11 @@ fn thresh_type(nodes: &[u32], m: usize, n: u32) -> Result<Correctness, ErrorKind
         at -= child_size as usize;
         i += 1;
     }
-    Ok(earlier)
+    Typed::Is(earlier)
 }
 
 // The type of the node's tree, by the rule of its kind.
-fn type_of_node(s: Shape, n: Node, nodes: &[u32], m: usize) -> Result<Correctness, ErrorKind>
+fn type_of_node(s: Shape, n: Node, nodes: &[u32], m: usize) -> Typed
     requires m_in_bounds { 9 * m ≤ length nodes.now }
     requires children { Children (shape_held s) (node_of n) nodes.now m }
     ensures { result ≡ type_held (shape_held s) (node_of n) nodes.now m }
@@ -150,7 +150,7 @@ fn type_of_node(s: Shape, n: Node, nodes: &[u32], m: usize) -> Result<Correctnes
         1 => cast(n.kind, type_at(nodes, m - 1)),
         2 => pair_type(nodes, m, n.kind),
         3 => and_or_type(nodes, m),
-        _ => Ok(Correctness::leaf_type(leaf_of(n.kind))),
+        _ => Typed::Is(Correctness::leaf_type(leaf_of(n.kind))),
     }
 }
 
@@ -185,7 +185,7 @@ fn judged(s: Shape, n: Node, nodes: &[u32], m: usize) -> Verdict
     ensures { result ≡ judged_held (node_of n) (type_held (shape_held s) (node_of n) nodes.now m) }
 {
     let answer = type_of_node(s, n, nodes, m);
-    let Ok(ty) = answer else {
+    let Typed::Is(ty) = answer else {
         return says(14, reason(answer));
     };
     if !holds_type(n, ty) {

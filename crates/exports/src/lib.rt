@@ -105,14 +105,13 @@ pub extern "C" fn phagdrulis_read(
 pub extern "C" fn phagdrulis_lex(script: &[u8], tokens: &mut [u32]) -> Lexed
     ensures { Lexes script.now (length tokens.old) result tokens.new }
 {
-    let got = lex::lex(script, tokens);
-    match got {
-        lex::Answer::Tokens(count) => Lexed {
+    match lex::lex(script, tokens) {
+        Ok(count) => Lexed {
             number: 0,
             place: 0,
             tokens: count,
         },
-        lex::Answer::Refused { number, place } => Lexed {
+        Err(lex::Refused { number, place }) => Lexed {
             number,
             place,
             tokens: 0,
@@ -125,22 +124,16 @@ pub extern "C" fn phagdrulis_lex(script: &[u8], tokens: &mut [u32]) -> Lexed
 pub extern "C" fn phagdrulis_room(script: &[u8]) -> Room
     ensures { result ≡ room_in (room_of script.now) }
 {
-    let got = lex::room(script);
-    match got {
-        lex::Ample::Sizes {
-            tokens,
-            nodes,
-            keys,
-            work,
-        } => Room {
+    match lex::room(script) {
+        Ok(sizes) => Room {
             number: 0,
             place: 0,
-            tokens,
-            nodes,
-            keys,
-            work,
+            tokens: sizes.tokens,
+            nodes: sizes.nodes,
+            keys: sizes.keys,
+            work: sizes.work,
         },
-        lex::Ample::Refused { number, place } => Room {
+        Err(lex::Refused { number, place }) => Room {
             number,
             place,
             tokens: 0,

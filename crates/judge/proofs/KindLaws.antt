@@ -4,7 +4,7 @@ use Prim.Native.Nat.{ℕ}
 use borrow.Author.Tests.{ne_eqb}
 use Rattle.correctness.specs.declared.Correctness.{Correctness}
 use Rattle.correctness.specs.declared.Leaf.TheVariants as leaf
-use Rattle.correctness.specs.Typed.{Typed}
+use Rattle.correctness.specs.declared.Typed.{Typed}
 use Rattle.correctness.specs.Rules.{cast_zeronotequal, or_i}
 use Rattle.judge.specs.Nodes.{leaf_of, cast_of, combination_of}
 

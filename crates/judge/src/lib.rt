@@ -6,12 +6,13 @@
 ghost use Rattle.std.specs.Prelude.{◌≡◌, ◌+◌, ◌*◌, ◌<◌, length};
 ghost use Rattle.tables.specs.Tables.{newest};
 ghost use Rattle.base_input.specs.Numbers.{bool_number};
+ghost use Rattle.correctness.specs.declared.Typed.TheVariants as typed;
 ghost use Rattle.correctness.specs.Reasons as reasons;
 ghost use Rattle.standard.specs.Table as standard;
 ghost use Rattle.judge.specs.Nodes.{held_type, leaf_of, new_leaf, cast_of, combination_of, reduce_one, reduce_two, reduce_three, reduce_many};
 ghost use Rattle.judge.specs.NodeTable.{node_at, size_at, Finished, node_of, making_of};
 
-use correctness::{Base, Correctness, ErrorKind, Input, Leaf};
+use correctness::{Base, Correctness, Input, Leaf, Typed};
 
 // A node before it is put into the table: 01's nine numbers. Laid out as in C, for callers who lend a table of such records.
 #[repr(C)]
@@ -47,7 +48,7 @@ fn bit(yes: bool) -> u32
 
 // A node of this type.
 fn typed(kind: u32, number: u32, count: u32, place: u32, size: u32, ty: Correctness) -> Node
-    ensures { node_of result ≡ standard.node kind number count place size (Ok ty) }
+    ensures { node_of result ≡ standard.node kind number count place size (typed.Is ty) }
 {
     let base = ty.base;
     let input = ty.input;
@@ -114,7 +115,7 @@ pub fn size_at(nodes: &[u32], i: usize) -> u32
 }
 
 // The rule of a kind with one child, in place of the closure that decode.rs gives to its `reduce1`. n: is 18.
-pub fn cast(kind: u32, x: Correctness) -> Result<Correctness, ErrorKind>
+pub fn cast(kind: u32, x: Correctness) -> Typed
     ensures { result ≡ cast_of kind x }
 {
     match kind {
@@ -129,7 +130,7 @@ pub fn cast(kind: u32, x: Correctness) -> Result<Correctness, ErrorKind>
 }
 
 // The rule of a kind with two children. or_i is 25.
-pub fn combine(kind: u32, x: Correctness, y: Correctness) -> Result<Correctness, ErrorKind>
+pub fn combine(kind: u32, x: Correctness, y: Correctness) -> Typed
     ensures { result ≡ combination_of kind x y }
 {
     match kind {
@@ -143,12 +144,12 @@ pub fn combine(kind: u32, x: Correctness, y: Correctness) -> Result<Correctness,
 }
 
 // Why a rule refuses, as 01's reason.
-pub fn reason(answer: Result<Correctness, ErrorKind>) -> u32
+pub fn reason(answer: Typed) -> u32
     ensures { result ≡ reasons.reason answer }
 {
     match answer {
-        Ok(_) => 0,
-        Err(error) => error.reason(),
+        Typed::Is(_) => 0,
+        Typed::Not(error) => error.reason(),
     }
 }
 
@@ -159,7 +160,7 @@ pub fn reduce1(nodes: &[u32], m: usize, kind: u32) -> Made
 {
     let x = m - 1;
     let answer = cast(kind, type_at(nodes, x));
-    let Ok(ty) = answer else {
+    let Typed::Is(ty) = answer else {
         return Made::Not(reason(answer));
     };
     let size = size_at(nodes, x) + 1;
@@ -176,7 +177,7 @@ pub fn reduce2(nodes: &[u32], m: usize, kind: u32) -> Made
     let y = x - (x_size as usize);
     let y_size = size_at(nodes, y);
     let answer = combine(kind, type_at(nodes, x), type_at(nodes, y));
-    let Ok(ty) = answer else {
+    let Typed::Is(ty) = answer else {
         return Made::Not(reason(answer));
     };
     let size = x_size + y_size + 1;
@@ -195,7 +196,7 @@ pub fn tern(nodes: &[u32], m: usize) -> Made
     let y = z - (z_size as usize);
     let y_size = size_at(nodes, y);
     let answer = Correctness::and_or(type_at(nodes, x), type_at(nodes, y), type_at(nodes, z));
-    let Ok(ty) = answer else {
+    let Typed::Is(ty) = answer else {
         return Made::Not(reason(answer));
     };
     let size = x_size + y_size + z_size + 1;
@@ -214,7 +215,7 @@ pub fn thresh(nodes: &[u32], m: usize, k: u32, n: u32) -> Made
     while i < n {
         let child = at - 1;
         let answer = Correctness::threshold_child(i, earlier, type_at(nodes, child));
-        let Ok(next) = answer else {
+        let Typed::Is(next) = answer else {
             return Made::Not(reason(answer));
         };
         let child_size = size_at(nodes, child);
