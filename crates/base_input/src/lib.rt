@@ -249,8 +249,6 @@ impl Input {
     pub fn is_subtype(self, other: Input) -> bool
         ensures { result ≡ is_subtype_input self other }
     {
-        self == other
-            || other == Input::Any
-            || (self == Input::OneNonZero && other != Input::Zero)
+        self == other || other == Input::Any || (self == Input::OneNonZero && other != Input::Zero)
     }
 }

@@ -408,11 +408,7 @@ impl Correctness {
 
     // and_or's script order is a, c, b.
     #[tactic(auto, unfolding(crate::specs::Rules::and_or))]
-    pub fn and_or(
-        a: Correctness,
-        b: Correctness,
-        c: Correctness,
-    ) -> Result<Correctness, ErrorKind>
+    pub fn and_or(a: Correctness, b: Correctness, c: Correctness) -> Result<Correctness, ErrorKind>
         ensures { result ≡ and_or a b c }
     {
         if !a.dissatisfiable {

@@ -1,5 +1,5 @@
 -- An empty rest of a script has no instruction: its bytes are missing. Assumes nothing.
-use Rattle.std.specs.Prelude.{◌≡◌, List, [], ◌∷◌, ℕ, ◌+◌, ◌<◌, length, Err, refl}
+use Rattle.std.specs.Prelude.{◌≡◌, List, [], ◌∷◌, ℕ, ◌<◌, length, Err, refl}
 use Rattle.std.proofs.Common.{arith}
 use Rattle.instruction.specs.declared.Error.TheVariants as error
 use Rattle.instruction.specs.Opcode.{ranged}

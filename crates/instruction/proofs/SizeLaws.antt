@@ -12,7 +12,6 @@ use Rattle.instruction.specs.declared.Op.{Op}
 use Rattle.instruction.specs.Error.{Lexing, Number}
 use Rattle.instruction.specs.declared.Lexed.TheVariants.{One, Two}
 use Rattle.std.specs.Prelude.{Ok, Err}
-use Rattle.instruction.specs.declared.Error.TheVariants as error
 use Rattle.instruction.specs.Opcode.{op_of}
 use Rattle.instruction.specs.Number.{little_endian, number_of}
 use Rattle.instruction.specs.Push.{has_opcode, push_of, pushed, numbered, sized_of}

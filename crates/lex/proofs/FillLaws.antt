@@ -4,7 +4,6 @@ use mathlib.Core.Path.{◌≡◌, refl, sym, ap, subst, ◌∙◌}
 use mathlib.Core.List.{List, [], ◌∷◌, ◌++◌, map}
 use Prim.Native.Nat.{ℕ, ◌+◌, ◌-◌, ◌*◌, ◌/◌, ◌≤◌, ◌<◌}
 use native.Mathlib.Omega.{arith}
-use mathlib.Core.Bool.{false}
 use borrow.Author.Tests.{lt-leb}
 use lib.ListN.{length, drop, length-append, length-map}
 use Rattle.tables.specs.Tables.{zeros, flat, Strided, put_at}

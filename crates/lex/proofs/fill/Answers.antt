@@ -1,9 +1,8 @@
 -- `lex::fill` meets its contract.
 use Rattle.instruction.proofs.SizeLaws.{one_fits, two_fits}
-use Rattle.instruction.specs.Instruction.{instruction_of}
 use Rattle.lex.proofs.FillLaws.{placed_ok, placed_err, fill_begun, fill_refused, fill_full_one, fill_full_two, fill_one, fill_two, fill_ended}
 use Rattle.lex.proofs.fill.Goals as goal
-use Rattle.std.proofs.Common.{◌≡◌, ◌+◌, ◌-◌, ◌≤◌, ◌<◌, length, drop, Ok, Err, ap, refl, arith}
+use Rattle.std.proofs.Common.{◌≡◌, length, Ok, Err, ap, refl, arith}
 
 pub loop-at-init : goal.loop-at-init
 loop-at-init c = fill_begun c.args.s.now (length c.args.t.now) c.args.t.now c.requires.0 refl c.requires.1

@@ -1,10 +1,9 @@
 -- `lex::room` meets its contract.
 use Rattle.instruction.proofs.SizeLaws.{one_fits, two_fits}
-use Rattle.instruction.specs.Instruction.{instruction_of}
 use Rattle.lex.proofs.FillLaws.{placed_ok, placed_err, count_begun, count_refused, count_one, count_two, count_ended, count_long}
 use Rattle.lex.proofs.room.Goals as goal
 use Rattle.lex.specs.Script.{script_limit}
-use Rattle.std.proofs.Common.{◌≡◌, ◌+◌, ◌-◌, ◌≤◌, ◌<◌, length, drop, Ok, Err, sym, ap, ◌∙◌, refl, arith, rules}
+use Rattle.std.proofs.Common.{◌≡◌, Ok, Err, ap, refl, arith}
 
 pub returns-then-s-gt-SCRIPT_LIMIT : goal.returns-then-s-gt-SCRIPT_LIMIT
 unfolding script_limit
