@@ -1,11 +1,9 @@
 -- For the proof: the node table as the code reads it (document 01, "Tokens to tree": nine numbers a node), what a reduction requires of it, and the code's answers.
-use Rattle.std.specs.Prelude.{ℕ, zero, suc, ◌+◌, ◌*◌, ◌-◌, ◌≤◌, ◌<◌, List, length}
+use Rattle.std.specs.Prelude.{Result, Ok, Err, ℕ, zero, suc, ◌+◌, ◌*◌, ◌-◌, ◌≤◌, ◌<◌, List, length}
 use Rattle.standard.specs.Table.{Node}
 pub use Rattle.standard.specs.Table.{node_at}
 use Rattle.judge.specs.Nodes.{Making, makes, refuses}
 use Rattle.judge.specs.declared.Node as code
-use Rattle.judge.specs.declared.Made.{Made}
-use Rattle.judge.specs.declared.Made.TheVariants.{Is, Not}
 
 abbrev pub size_at : List ℕ → ℕ → ℕ
 size_at table i = (node_at table i).size
@@ -27,6 +25,7 @@ abbrev pub node_of : code.Node → Node
 node_of n =
     record { kind = n.kind; number = n.number; count = n.count; place = n.place; size = n.size; base = n.base; input = n.input; d = n.d; u = n.u }
 
-abbrev pub making_of : Made → Making
-making_of (Is n) = makes (node_of n)
-making_of (Not reason) = refuses reason
+-- a reduction's answer: the node, or 14's reason
+abbrev pub making_of : Result code.Node ℕ → Making
+making_of (Ok n) = makes (node_of n)
+making_of (Err reason) = refuses reason

@@ -5,7 +5,6 @@
 
 ghost use Rattle.std.specs.Prelude.{◌≡◌, ◌+◌, ◌*◌, ◌<◌, length};
 ghost use Rattle.tables.specs.Tables.{newest};
-ghost use Rattle.base_input.specs.Numbers.{bool_number};
 ghost use Rattle.correctness.specs.declared.Typed.TheVariants as typed;
 ghost use Rattle.correctness.specs.Reasons as reasons;
 ghost use Rattle.standard.specs.Table as standard;
@@ -29,43 +28,25 @@ pub struct Node {
     pub u: u32,
 }
 
-// What a reduction answers: the node, or 14's reason.
-#[derive(Clone, Copy)]
-pub enum Made {
-    Is(Node),
-    Not(u32),
-}
-
-// "A yes is 1".
-fn bit(yes: bool) -> u32
-    ensures { result ≡ bool_number yes }
-{
-    if yes {
-        return 1;
-    }
-    0
-}
-
-// A node of this type.
+// A node of this type; "a yes is 1".
 fn typed(kind: u32, number: u32, count: u32, place: u32, size: u32, ty: Correctness) -> Node
     ensures { node_of result ≡ standard.node kind number count place size (typed.Is ty) }
 {
-    let base = ty.base;
-    let input = ty.input;
     Node {
         kind,
         number,
         count,
         place,
         size,
-        base: base.number(),
-        input: input.number(),
-        d: bit(ty.dissatisfiable),
-        u: bit(ty.unit),
+        base: ty.base.number(),
+        input: ty.input.number(),
+        d: u32::from(ty.dissatisfiable),
+        u: u32::from(ty.unit),
     }
 }
 
 // A kind without a child, by what type it has; the four hashes are 8 to 11.
+#[tactic(auto, unfolding(crate::specs::Nodes::leaf_of))]
 pub fn leaf_of(kind: u32) -> Leaf
     ensures { result ≡ leaf_of kind }
 {
@@ -115,6 +96,7 @@ pub fn size_at(nodes: &[u32], i: usize) -> u32
 }
 
 // The rule of a kind with one child, in place of the closure that decode.rs gives to its `reduce1`. n: is 18.
+#[tactic(auto, unfolding(crate::specs::Nodes::cast_of))]
 pub fn cast(kind: u32, x: Correctness) -> Typed
     ensures { result ≡ cast_of kind x }
 {
@@ -130,6 +112,7 @@ pub fn cast(kind: u32, x: Correctness) -> Typed
 }
 
 // The rule of a kind with two children. or_i is 25.
+#[tactic(auto, unfolding(crate::specs::Nodes::combination_of))]
 pub fn combine(kind: u32, x: Correctness, y: Correctness) -> Typed
     ensures { result ≡ combination_of kind x y }
 {
@@ -153,22 +136,23 @@ pub fn reason(answer: Typed) -> u32
     }
 }
 
-// The newest finished tree under a wrapper.
-pub fn reduce1(nodes: &[u32], m: usize, kind: u32) -> Made
+// The newest finished tree under a wrapper. The four reductions answer the node, or 14's reason as a number: where a rule
+// refuses, a `let .. else` leaves at once, and that has no name for the rule's error.
+pub fn reduce1(nodes: &[u32], m: usize, kind: u32) -> Result<Node, u32>
     requires { Finished 1 m nodes.now }
     ensures { making_of result ≡ reduce_one kind (newest (node_at nodes.now) m) }
 {
     let x = m - 1;
     let answer = cast(kind, type_at(nodes, x));
     let Typed::Is(ty) = answer else {
-        return Made::Not(reason(answer));
+        return Err(reason(answer));
     };
     let size = size_at(nodes, x) + 1;
-    Made::Is(typed(kind, 0, 0, 0, size, ty))
+    Ok(typed(kind, 0, 0, 0, size, ty))
 }
 
 // The two newest finished trees; the newest is the first in script order.
-pub fn reduce2(nodes: &[u32], m: usize, kind: u32) -> Made
+pub fn reduce2(nodes: &[u32], m: usize, kind: u32) -> Result<Node, u32>
     requires { Finished 2 m nodes.now }
     ensures { making_of result ≡ reduce_two kind (newest (node_at nodes.now) m) }
 {
@@ -178,14 +162,14 @@ pub fn reduce2(nodes: &[u32], m: usize, kind: u32) -> Made
     let y_size = size_at(nodes, y);
     let answer = combine(kind, type_at(nodes, x), type_at(nodes, y));
     let Typed::Is(ty) = answer else {
-        return Made::Not(reason(answer));
+        return Err(reason(answer));
     };
     let size = x_size + y_size + 1;
-    Made::Is(typed(kind, 0, 0, 0, size, ty))
+    Ok(typed(kind, 0, 0, 0, size, ty))
 }
 
 // and_or of the three newest finished trees, whose script order is X, Z, Y.
-pub fn tern(nodes: &[u32], m: usize) -> Made
+pub fn tern(nodes: &[u32], m: usize) -> Result<Node, u32>
     requires { Finished 3 m nodes.now }
     ensures { making_of result ≡ reduce_three (newest (node_at nodes.now) m) }
 {
@@ -197,32 +181,30 @@ pub fn tern(nodes: &[u32], m: usize) -> Made
     let y_size = size_at(nodes, y);
     let answer = Correctness::and_or(type_at(nodes, x), type_at(nodes, y), type_at(nodes, z));
     let Typed::Is(ty) = answer else {
-        return Made::Not(reason(answer));
+        return Err(reason(answer));
     };
     let size = x_size + y_size + z_size + 1;
-    Made::Is(typed(21, 0, 0, 0, size, ty))
+    Ok(typed(21, 0, 0, 0, size, ty))
 }
 
 // thresh of the n newest finished trees, child by child.
-pub fn thresh(nodes: &[u32], m: usize, k: u32, n: u32) -> Made
+pub fn thresh(nodes: &[u32], m: usize, k: u32, n: u32) -> Result<Node, u32>
     requires { Finished n m nodes.now }
     ensures { making_of result ≡ reduce_many k n (newest (node_at nodes.now) m) }
 {
     let mut earlier = Correctness::no_children();
     let mut at = m;
     let mut size = 0;
-    let mut i = 0;
-    while i < n {
+    for i in 0..n {
         let child = at - 1;
         let answer = Correctness::threshold_child(i, earlier, type_at(nodes, child));
         let Typed::Is(next) = answer else {
-            return Made::Not(reason(answer));
+            return Err(reason(answer));
         };
         let child_size = size_at(nodes, child);
         earlier = next;
         at -= child_size as usize;
         size += child_size;
-        i += 1;
     }
-    Made::Is(typed(26, k, n, 0, size + 1, earlier))
+    Ok(typed(26, k, n, 0, size + 1, earlier))
 }

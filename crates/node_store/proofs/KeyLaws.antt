@@ -2,9 +2,9 @@
 -- Why: before turn i the offsets of the first i tokens are written, and the next token is the one that the loop has reached.
 use mathlib.Core.Path.{◌≡◌, refl, sym, ap, ◌∙◌}
 use mathlib.Core.List.{List, [], ◌∷◌, ◌++◌}
-use Prim.Native.Nat.{ℕ, zero, suc, ◌+◌, ◌-◌, ◌*◌, ◌/◌, ◌%◌, ◌≤◌, ◌<◌}
+use Prim.Native.Nat.{min, ℕ, zero, suc, ◌+◌, ◌-◌, ◌*◌, ◌/◌, ◌%◌, ◌≤◌, ◌<◌}
 use mathlib.Core.Logic.{⊎_elim, inl, inr}
-use native.Mathlib.Nat.{mul-zero, mul-suc, div-add-mod', mod-lt}
+use native.Mathlib.Nat.{eq-or-lt_of_le, mul-zero, mul-suc, div-add-mod', mod-lt}
 use native.Mathlib.Omega.{arith}
 use lib.ListN.{length, set, length-set, length-append, length-replicate, get_or-eq_default}
 use Rattle.tables.specs.Tables.{zeros, put_at}
@@ -40,6 +40,12 @@ behind table i h =
 
 pub same_offset : (table : List ℕ) (i j : ℕ) → SameToken table i j → offset_at table i ≡ offset_at table j
 same_offset table i j h = ⊎_elim (λ e. ap (offset_at table) e) (λ b. behind table i b.0 ∙ sym (behind table j b.1)) h
+
+-- a stride further, or the last number that there is
+pub saturated : (table : List ℕ) (at stride : ℕ) {r : ℕ} → length table < 18446744073709551616 → r ≡ min (at + stride) 18446744073709551615 → SameToken table r (at + stride)
+saturated table at stride {r} h e =
+    let most : r ≤ at + stride = omega arith in
+    ⊎_elim (λ s. inl s) (λ l. inr (omega arith, omega arith)) (eq-or-lt_of_le most)
 
 pub same_further : (table : List ℕ) (r at stride reached : ℕ) → SameToken table r (at + stride) → SameToken table at reached → SameToken table r (reached + stride)
 same_further table r at stride reached h g =

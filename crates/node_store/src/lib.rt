@@ -7,7 +7,7 @@ ghost use Rattle.tables.specs.Tables.{put_at};
 ghost use Rattle.standard.specs.Table.{cells};
 ghost use Rattle.row.specs.Request.{offsets_from};
 ghost use Rattle.judge.specs.NodeTable.{node_of};
-ghost use Rattle.node_store.specs.Offsets.{offset_at, SameToken, Low};
+ghost use Rattle.node_store.specs.Offsets.{offset_at, Low};
 
 use judge::Node;
 
@@ -17,15 +17,9 @@ pub fn put(nodes: &mut [u32], m: usize, x: Node)
     ensures { nodes.new ≡ put_at nodes.old (9 * m) (cells (node_of x)) }
 {
     let i = 9 * m;
-    nodes[i] = x.kind;
-    nodes[i + 1] = x.number;
-    nodes[i + 2] = x.count;
-    nodes[i + 3] = x.place;
-    nodes[i + 4] = x.size;
-    nodes[i + 5] = x.base;
-    nodes[i + 6] = x.input;
-    nodes[i + 7] = x.d;
-    nodes[i + 8] = x.u;
+    nodes[i..i + 9].copy_from_slice(&[
+        x.kind, x.number, x.count, x.place, x.size, x.base, x.input, x.d, x.u,
+    ]);
 }
 
 // Where the data starts that token number i pushes: one byte behind its instruction. A token that isn't in the table has
@@ -40,20 +34,6 @@ fn offset_at(tokens: &[u32], i: usize) -> u32
     tokens[3 * i + 2] + 1
 }
 
-// The token a stride further, or the one behind the last.
-fn further(tokens: &[u32], at: usize, stride: usize) -> usize
-    ensures { SameToken tokens.now result (at + stride) }
-{
-    let all = tokens.len() / 3;
-    if all <= at {
-        return at;
-    }
-    if all - at <= stride {
-        return all;
-    }
-    at + stride
-}
-
 // The offsets of what n tokens push, from the token `first` on, a stride apart.
 pub fn copy_keys(
     tokens: &[u32],
@@ -66,11 +46,10 @@ pub fn copy_keys(
     requires { (from + n ≤ length keys.old) × Low tokens.now }
     ensures { keys.new ≡ put_at keys.old from (offsets_from tokens.now n first stride) }
 {
-    let mut i = 0;
     let mut at = first;
-    while i < n {
+    for i in 0..n {
         keys[from + i] = offset_at(tokens, at);
-        at = further(tokens, at, stride);
-        i += 1;
+        // The caller bounds no stride: a sum past the last number is cut, and lies behind the table all the same.
+        at = at.saturating_add(stride);
     }
 }

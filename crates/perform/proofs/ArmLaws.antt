@@ -15,13 +15,12 @@ use Rattle.row.specs.Request as request
 use Rattle.judge.specs.Nodes.{new_leaf}
 use Rattle.judge.specs.NodeTable.{Finished}
 use Rattle.work_list.specs.Work.{packed, Small}
-use Rattle.work_list.proofs.WorkLaws.{entered_one, entered_two, entered_three}
+use Rattle.work_list.proofs.WorkLaws.{entered}
 use Rattle.node_store.proofs.KeyLaws.{offsets_length}
 use Rattle.lists.specs.Small.{SmallEntry, SmallEntries}
 use Rattle.lists.specs.Ready.{most_counted, Ready}
 use Rattle.writes.specs.declared.State.{State}
-use Rattle.writes.specs.declared.Step.{Step}
-use Rattle.writes.specs.Written.{Enters, Leaves, Keyed}
+use Rattle.writes.specs.Written.{Step, Enters, Leaves, Keyed}
 use Rattle.perform.specs.View.{Inside, Performs}
 use Rattle.perform.proofs.PerformLaws.{enters_performs, leaf_performs, verified_performs, keyed_performs}
 
@@ -83,7 +82,7 @@ told asked is e h = rw e h
 pub leaf_arm : (tokens nodes keys work : List ℕ) (s : State) → Inside nodes keys work s → (x : Node) (kind number place : ℕ) (verify : Bool) (nodes' work' : List ℕ) (r : Step)
     → x ≡ new_leaf kind number 0 place → Leaves nodes nodes' work work' s x verify r → Performs tokens nodes keys work nodes' keys work' s (request.leaf_node kind number place (under_verify verify)) r
 leaf_arm tokens nodes keys work s i x kind number place true nodes' work' r e h =
-    verified_performs tokens nodes keys work s i x (packed non-term.Verify ∷ []) rows.Verify refl (λ g. entered_one work s.work non-term.Verify g tt) kind number place e h
+    verified_performs tokens nodes keys work s i x (packed non-term.Verify ∷ []) rows.Verify refl (λ g. entered work s.work (non-term.Verify ∷ []) g (tt, tt)) kind number place e h
 leaf_arm tokens nodes keys work s i x kind number place false nodes' work' r e h = rw h.1 (leaf_performs tokens nodes keys work s i kind number place x e h.0)
 
 module _ (tokens nodes keys work : List ℕ) (s : State) (inside : Inside nodes keys work s) (asked : Row) where
@@ -100,14 +99,14 @@ module _ (tokens nodes keys work : List ℕ) (s : State) (inside : Inside nodes 
     pub one_told : {a : NonTerm} → asked ≡ row.Enter1 a → {work' : List ℕ} {r : Step} → Enters work work' s (packed a ∷ []) r → Performs tokens nodes keys work nodes keys work' s (request_of tokens asked) r
     one_told {a} e h =
         let small : Small a = small_one tokens nodes s.nodes asked ready a e in
-        rw e (enters_performs tokens nodes keys work s inside (entry_of a ∷ []) h refl (λ g. entered_one work s.work a g small))
+        rw e (enters_performs tokens nodes keys work s inside (entry_of a ∷ []) h refl (λ g. entered work s.work (a ∷ []) g (small, tt)))
 
     pub two_told : {a b : NonTerm} → asked ≡ row.Enter2 a b → {work' : List ℕ} {r : Step} → Enters work work' s (packed a ∷ packed b ∷ []) r → Performs tokens nodes keys work nodes keys work' s (request_of tokens asked) r
     two_told {a} {b} e h =
         let small = small_two tokens nodes s.nodes asked ready a b e in
-        rw e (enters_performs tokens nodes keys work s inside (entry_of b ∷ entry_of a ∷ []) h refl (λ g. entered_two work s.work a b g small.0 small.1))
+        rw e (enters_performs tokens nodes keys work s inside (entry_of b ∷ entry_of a ∷ []) h refl (λ g. entered work s.work (a ∷ b ∷ []) g (small.0, (small.1, tt))))
 
     pub three_told : {a b c : NonTerm} → asked ≡ row.Enter3 a b c → {work' : List ℕ} {r : Step} → Enters work work' s (packed a ∷ packed b ∷ packed c ∷ []) r → Performs tokens nodes keys work nodes keys work' s (request_of tokens asked) r
     three_told {a} {b} {c} e h =
         let small = small_three tokens nodes s.nodes asked ready a b c e in
-        rw e (enters_performs tokens nodes keys work s inside (entry_of c ∷ entry_of b ∷ entry_of a ∷ []) h refl (λ g. entered_three work s.work a b c g small.0 small.1.0 small.1.1))
+        rw e (enters_performs tokens nodes keys work s inside (entry_of c ∷ entry_of b ∷ entry_of a ∷ []) h refl (λ g. entered work s.work (a ∷ b ∷ c ∷ []) g (small.0, (small.1.0, (small.1.1, tt)))))

@@ -1,8 +1,9 @@
 -- What was written, read as lists: each request is carried out as the machine on lists does it. Assumes nothing.
+use Rattle.std.proofs.Common.{Ok}
 use mathlib.Core.Path.{◌≡◌, refl, sym, ap, ◌∙◌}
 use mathlib.Core.Bool.{Bool, true, false}
 use mathlib.Core.List.{List, [], ◌∷◌, ◌++◌}
-use Prim.Native.Nat.{ℕ, ◌+◌, ◌-◌, ◌*◌, ◌/◌, ◌≤◌, ◌<◌}
+use Prim.Native.Nat.{ℕ, ◌+◌, ◌*◌, ◌/◌, ◌≤◌, ◌<◌}
 use native.Mathlib.Omega.{arith}
 use lib.Dec.{leb}
 use lib.ListN.{length, take, drop, length-append, length-take}
@@ -25,9 +26,7 @@ use Rattle.judge.specs.NodeTableLaws.{put_newest}
 use Rattle.lists.specs.Lists.{Lists, goes, stops, fitting, made}
 use Rattle.lists.specs.FittingLaws.{all_fits, no_work_room, no_node_room, no_key_room}
 use Rattle.writes.specs.declared.State.{State}
-use Rattle.writes.specs.declared.Step.{Step}
-use Rattle.writes.specs.declared.Step.TheVariants as step
-use Rattle.writes.specs.Written.{counts, stopped, Enters, Stores, Finishes, Verified, Keyed}
+use Rattle.writes.specs.Written.{Step, counts, stopped, Enters, Stores, Finishes, Verified, Keyed}
 use Rattle.perform.specs.View.{view_of, seen, room_of, perform_on, Inside, Behind, Kept, Performs}
 
 module _ (tokens nodes keys work : List ℕ) (s : State) (inside : Inside nodes keys work s) where
@@ -53,7 +52,7 @@ module _ (tokens nodes keys work : List ℕ) (s : State) (inside : Inside nodes 
 
   enters_by : (numbers : List ℕ) (es : List rows.NonTerm) (b : Bool) → leb (s.work + length numbers) (length work) ≡ b → length es ≡ length numbers
       → (s.work + length numbers ≤ length work → work_of (put_at work s.work numbers) (s.work + length numbers) ≡ es ++ work_of work s.work)
-      → (script : List ℕ) → seen script tokens nodes keys (pick b (put_at work s.work numbers) work) (pick b (step.Goes (counts s.left (s.work + length numbers) s.nodes s.keys)) (stopped s 17 0))
+      → (script : List ℕ) → seen script tokens nodes keys (pick b (put_at work s.work numbers) work) (pick b (Ok (counts s.left (s.work + length numbers) s.nodes s.keys)) (stopped s 17 0))
       ≡ perform_on script tokens nodes keys work s (entries es)
   unfolding view_of
   enters_by numbers es true e l w script =
@@ -67,7 +66,7 @@ module _ (tokens nodes keys work : List ℕ) (s : State) (inside : Inside nodes 
       ∙ sym (no_work_room (room_of nodes keys work) (lists script (es ++ work_of work s.work) (newest (node_at nodes) s.nodes) (take s.keys keys))
       (omega (arith, keys_length, inside.in_keys)) (omega (arith, nodes_length, inside.in_nodes)) (omega (arith, length-append es (work_of work s.work), work_length)))
 
-  enters_kept : (b : Bool) (w : ℕ) → Kept nodes nodes keys keys s (pick b (step.Goes (counts s.left w s.nodes s.keys)) (stopped s 17 0))
+  enters_kept : (b : Bool) (w : ℕ) → Kept nodes nodes keys keys s (pick b (Ok (counts s.left w s.nodes s.keys)) (stopped s 17 0))
   enters_kept true w = (((λ h. h), (λ h. h)), inside.in_keys)
   enters_kept false w = (refl, refl)
 
@@ -86,7 +85,7 @@ module _ (tokens nodes keys work : List ℕ) (s : State) (inside : Inside nodes 
   put_kept x h i b = put_behind nodes (9 * s.nodes) i (cells x) (omega arith) ∙ h i (omega arith)
 
   stores_by : (x : Node) (b : Bool) → leb (s.nodes + 1) (length nodes / 9) ≡ b
-      → (script : List ℕ) → seen script tokens (pick b (put_at nodes (9 * s.nodes) (cells x)) nodes) keys work (pick b (step.Goes (counts s.left s.work (s.nodes + 1) s.keys)) (stopped s 15 0))
+      → (script : List ℕ) → seen script tokens (pick b (put_at nodes (9 * s.nodes) (cells x)) nodes) keys work (pick b (Ok (counts s.left s.work (s.nodes + 1) s.keys)) (stopped s 15 0))
       ≡ fitting (room_of nodes keys work) (lists script (work_of work s.work) (x ∷ newest (node_at nodes) s.nodes) (take s.keys keys))
   unfolding view_of
   stores_by x true e script =
@@ -100,7 +99,7 @@ module _ (tokens nodes keys work : List ℕ) (s : State) (inside : Inside nodes 
       ∙ sym (no_node_room (room_of nodes keys work) (lists script (work_of work s.work) (x ∷ newest (node_at nodes) s.nodes) (take s.keys keys))
       (omega (arith, keys_length, inside.in_keys)) (omega (arith, nodes_length)))
 
-  stores_kept : (x : Node) (b : Bool) → Kept nodes (pick b (put_at nodes (9 * s.nodes) (cells x)) nodes) keys keys s (pick b (step.Goes (counts s.left s.work (s.nodes + 1) s.keys)) (stopped s 15 0))
+  stores_kept : (x : Node) (b : Bool) → Kept nodes (pick b (put_at nodes (9 * s.nodes) (cells x)) nodes) keys keys s (pick b (Ok (counts s.left s.work (s.nodes + 1) s.keys)) (stopped s 15 0))
   stores_kept x true = ((put_kept x, (λ h. h)), inside.in_keys)
   stores_kept x false = (refl, refl)
 
@@ -149,7 +148,7 @@ module _ (tokens nodes keys work : List ℕ) (s : State) (inside : Inside nodes 
   module _ (x : Node) (numbers : List ℕ) (wrapper : rows.NonTerm) (one : length numbers ≡ 1) (entered : s.work + 1 ≤ length work → work_of (put_at work s.work numbers) (s.work + 1) ≡ wrapper ∷ work_of work s.work) where
     verified_by : (b c : Bool) → leb (s.nodes + 1) (length nodes / 9) ≡ b → leb (s.work + 1) (length work) ≡ c → (script : List ℕ)
         → seen script tokens (pick b (pick c (put_at nodes (9 * s.nodes) (cells x)) nodes) nodes) keys (pick b (pick c (put_at work s.work numbers) work) work)
-        (pick b (pick c (step.Goes (counts s.left (s.work + 1) (s.nodes + 1) s.keys)) (stopped s 17 0)) (stopped s 15 0))
+        (pick b (pick c (Ok (counts s.left (s.work + 1) (s.nodes + 1) s.keys)) (stopped s 17 0)) (stopped s 15 0))
         ≡ fitting (room_of nodes keys work) (lists script (wrapper ∷ work_of work s.work) (x ∷ newest (node_at nodes) s.nodes) (take s.keys keys))
     unfolding view_of
     verified_by true true e f script =
@@ -172,7 +171,7 @@ module _ (tokens nodes keys work : List ℕ) (s : State) (inside : Inside nodes 
         (omega (arith, keys_length, inside.in_keys)) (omega (arith, nodes_length)))
 
     verified_kept : (b c : Bool) → Kept nodes (pick b (pick c (put_at nodes (9 * s.nodes) (cells x)) nodes) nodes) keys keys s
-        (pick b (pick c (step.Goes (counts s.left (s.work + 1) (s.nodes + 1) s.keys)) (stopped s 17 0)) (stopped s 15 0))
+        (pick b (pick c (Ok (counts s.left (s.work + 1) (s.nodes + 1) s.keys)) (stopped s 17 0)) (stopped s 15 0))
     verified_kept true true = ((put_kept x, (λ h. h)), inside.in_keys)
     verified_kept true false = (refl, refl)
     verified_kept false c = (refl, refl)
@@ -207,7 +206,7 @@ module _ (tokens nodes keys work : List ℕ) (s : State) (inside : Inside nodes 
 
     keyed_by : (b c : Bool) → leb (s.keys + length offsets) (length keys) ≡ b → leb (s.nodes + 1) (length nodes / 9) ≡ c → (script : List ℕ)
         → seen script tokens (pick b (pick c (put_at nodes (9 * s.nodes) (cells x)) nodes) nodes) (pick b (pick c (put_at keys s.keys offsets) keys) keys) work
-        (pick b (pick c (step.Goes (counts s.left s.work (s.nodes + 1) (s.keys + length offsets))) (stopped s 15 0)) (stopped s 16 0))
+        (pick b (pick c (Ok (counts s.left s.work (s.nodes + 1) (s.keys + length offsets))) (stopped s 15 0)) (stopped s 16 0))
         ≡ fitting (room_of nodes keys work) (after script)
     unfolding view_of
     keyed_by true true e f script =
@@ -225,7 +224,7 @@ module _ (tokens nodes keys work : List ℕ) (s : State) (inside : Inside nodes 
         refused_here script 16 0 ∙ sym (no_key_room (room_of nodes keys work) (after script) (omega (arith, keys_after_length)))
 
     keyed_kept : (b c : Bool) → leb (s.keys + length offsets) (length keys) ≡ b → Kept nodes (pick b (pick c (put_at nodes (9 * s.nodes) (cells x)) nodes) nodes) keys (pick b (pick c (put_at keys s.keys offsets) keys) keys) s
-        (pick b (pick c (step.Goes (counts s.left s.work (s.nodes + 1) (s.keys + length offsets))) (stopped s 15 0)) (stopped s 16 0))
+        (pick b (pick c (Ok (counts s.left s.work (s.nodes + 1) (s.keys + length offsets))) (stopped s 15 0)) (stopped s 16 0))
     keyed_kept true true e = ((put_kept x, copied_kept offsets), omega (arith, put_length keys s.keys offsets, leb-true (s.keys + length offsets) (length keys) e))
     keyed_kept true false e = (refl, refl)
     keyed_kept false c e = (refl, refl)
@@ -247,7 +246,7 @@ module _ (tokens nodes keys work : List ℕ) (s : State) (inside : Inside nodes 
   pub refused_performs : (number : ℕ) {r : Step} → r ≡ stopped s number 0 → Performs tokens nodes keys work nodes keys work s (refused number) r
   refused_performs number e = record { answers = λ script. rw e (refused_here script number 0); kept = rw e (refl, refl) }
 
-  pub goes_performs : {r : Step} → r ≡ step.Goes s → Performs tokens nodes keys work nodes keys work s (entries []) r
+  pub goes_performs : {r : Step} → r ≡ Ok s → Performs tokens nodes keys work nodes keys work s (entries []) r
   unfolding view_of
   goes_performs e =
       record {

@@ -1,5 +1,5 @@
 -- For the proof: the machine's lists (crate `lists`) read off the four tables, and what a step says of them; what its parts write is in crate `writes`.
-use Rattle.std.specs.Prelude.{Bool, ◌≡◌, List, ℕ, ◌+◌, ◌-◌, ◌*◌, ◌/◌, ◌≤◌, ◌<◌, length, take, get_or}
+use Rattle.std.specs.Prelude.{Ok, Err, Bool, ◌≡◌, List, ℕ, ◌+◌, ◌-◌, ◌*◌, ◌/◌, ◌≤◌, ◌<◌, length, take, get_or}
 use Rattle.tables.specs.Tables.{newest}
 use Rattle.standard.specs.Machine.{Limits}
 use Rattle.row.specs.Tokens.{lexemes_left}
@@ -8,8 +8,7 @@ use Rattle.judge.specs.NodeTable.{node_at}
 use Rattle.work_list.specs.Work.{entry_at, work_of}
 use Rattle.lists.specs.Lists.{Lists, Next, goes, stops, perform, step_by}
 use Rattle.writes.specs.declared.State.{State}
-use Rattle.writes.specs.declared.Step.{Step}
-use Rattle.writes.specs.declared.Step.TheVariants as step
+use Rattle.writes.specs.Written.{Step}
 
 -- Lists
 
@@ -25,8 +24,8 @@ view_of script tokens nodes keys work s =
 
 -- what a step answers
 abbrev pub seen : List ℕ → List ℕ → List ℕ → List ℕ → List ℕ → Step → Next
-seen script tokens nodes keys work (step.Goes s) = goes (view_of script tokens nodes keys work s)
-seen script tokens nodes keys work (step.Stops number reason left) = stops (record { number = number; reason = reason; before = left })
+seen script tokens nodes keys work (Ok s) = goes (view_of script tokens nodes keys work s)
+seen script tokens nodes keys work (Err stop) = stops (record { number = stop.number; reason = stop.reason; before = stop.left })
 
 -- how much the tables hold
 abbrev pub room_of : List ℕ → List ℕ → List ℕ → Limits
@@ -53,8 +52,8 @@ Behind table n = (i : ℕ) → n ≤ i → get_or table i 0 ≡ 0
 
 -- zeros stay behind what is in use, which lies in the table, and a refusal writes nothing to nodes and keys
 abbrev pub Kept : List ℕ → List ℕ → List ℕ → List ℕ → State → Step → Type 0
-Kept nodes nodes' keys keys' s (step.Goes t) = ((Behind nodes (9 * s.nodes) → Behind nodes' (9 * t.nodes)) × (Behind keys s.keys → Behind keys' t.keys)) × (t.keys ≤ length keys')
-Kept nodes nodes' keys keys' s (step.Stops number reason left) = (nodes' ≡ nodes) × (keys' ≡ keys)
+Kept nodes nodes' keys keys' s (Ok t) = ((Behind nodes (9 * s.nodes) → Behind nodes' (9 * t.nodes)) × (Behind keys s.keys → Behind keys' t.keys)) × (t.keys ≤ length keys')
+Kept nodes nodes' keys keys' s (Err stop) = (nodes' ≡ nodes) × (keys' ≡ keys)
 
 -- a request was carried out, whatever the script's bytes are
 pub record Performs (tokens nodes keys work nodes' keys' work' : List ℕ) (s : State) (request : Request) (r : Step) : Type 0 where

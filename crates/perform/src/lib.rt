@@ -8,7 +8,7 @@ ghost use Rattle.lists.specs.Ready.{Ready};
 ghost use Rattle.perform.specs.View.{Inside, Performs};
 
 use row::Row;
-use writes::{State, Step};
+use writes::{State, Stop};
 
 // What a row asks for, carried out.
 pub fn perform(
@@ -18,7 +18,7 @@ pub fn perform(
     work: &mut [u64],
     s: State,
     row: Row,
-) -> Step
+) -> Result<State, Stop>
     requires inside { Inside nodes.old keys.old work.old s }
     requires low { Low tokens.now }
     requires ready { Ready s.nodes nodes.old (request_of tokens.now row) }
@@ -26,11 +26,11 @@ pub fn perform(
 {
     let m = s.nodes;
     match row {
-        Row::Refused(number) => writes::stop(s, number, 0),
-        Row::Enter0 => Step::Goes(s),
-        Row::Enter1(a) => writes::enter1(work, s, a),
-        Row::Enter2(a, b) => writes::enter2(work, s, a, b),
-        Row::Enter3(a, b, c) => writes::enter3(work, s, a, b, c),
+        Row::Refused(number) => Err(s.stop(number, 0)),
+        Row::Enter0 => Ok(s),
+        Row::Enter1(a) => writes::enter(work, s, &[a]),
+        Row::Enter2(a, b) => writes::enter(work, s, &[a, b]),
+        Row::Enter3(a, b, c) => writes::enter(work, s, &[a, b, c]),
         Row::Leaf {
             kind,
             number,

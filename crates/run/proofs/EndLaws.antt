@@ -1,4 +1,5 @@
 -- The end of a run: what `close` answers is the machine's verdict, and the tables are the tree's. Assumes nothing.
+use Rattle.std.proofs.Common.{Result, Ok, Err}
 use mathlib.Core.Path.{◌≡◌, refl, sym, ap, subst, ◌∙◌}
 use mathlib.Core.Bool.{Bool, true, false}
 use mathlib.Core.List.{List, [], ◌∷◌, ◌++◌, map, map-append, reverse, reverse_aux, reverse-cons, reverse-reverse, append-nil}
@@ -34,11 +35,13 @@ use Rattle.forest.specs.Forest.{Forest}
 use Rattle.forest.proofs.ForestLaws.{forest_top}
 use Rattle.forest.proofs.TableLaws.{table_is}
 use Rattle.writes.specs.declared.State.{State}
+use Rattle.writes.specs.declared.Stop.{Stop}
+use Rattle.writes.specs.Written.{counts, stop_of}
 use Rattle.perform.specs.View.{view_of, room_of, Behind}
 use Rattle.run.specs.declared.Ran.{Ran}
-use Rattle.run.specs.Runs.{closes_with, Runs}
+use Rattle.run.specs.declared.Halted.{Halted}
+use Rattle.run.specs.Runs.{ran_of, halts, closes_with, Runs}
 use Rattle.run.proofs.RunLaws.{Running, nodes_are, nodes_inside}
-use Rattle.run.proofs.SteppingLaws.{keys_are}
 
 -- Tables with zeros behind
 
@@ -157,7 +160,7 @@ module _ (segwit : Bool) (script tokens : List ℕ) (count : ℕ) (limits : Limi
 
   -- a refusal after the last entry leaves the tables as they are
   refuses_here : (number before : ℕ) (q : Refusal) → decode segwit limits lexemes ≡ ends steps (refused q) → q ≡ record { number = number; reason = 0; before = before } → 1 ≤ number
-      → Runs segwit (decode segwit limits lexemes) nodes keys (record { number = number; reason = 0; left = before; steps = steps; nodes = s.nodes; keys = s.keys })
+      → Runs segwit (decode segwit limits lexemes) nodes keys (halts number before s steps)
   refuses_here number before q v e p =
       rw v (record {
         number_is = sym (ap (λ (x : Refusal). x.number) e);
@@ -171,7 +174,7 @@ module _ (segwit : Bool) (script tokens : List ℕ) (count : ℕ) (limits : Limi
         keys_behind = running.keys_behind;
       })
 
-  accepts_here : decode segwit limits lexemes ≡ ends steps (accepted the_tree_lem.0) → Runs segwit (decode segwit limits lexemes) nodes keys (record { number = 0; reason = 0; left = 0; steps = steps; nodes = s.nodes; keys = s.keys })
+  accepts_here : decode segwit limits lexemes ≡ ends steps (accepted the_tree_lem.0) → Runs segwit (decode segwit limits lexemes) nodes keys (Ok (ran_of s steps))
   unfolding view_of
   accepts_here v =
       let t = the_tree_lem.0 in
@@ -181,7 +184,7 @@ module _ (segwit : Bool) (script tokens : List ℕ) (count : ℕ) (limits : Limi
       let taken : length (take s.keys keys) ≡ s.keys = simp length-take (omega (arith, running.keys_in)) in
       let k : s.keys ≡ length (key_table (t ⊳ nil)) = sym taken ∙ ap length f.keys_are in
       rw v (record {
-        answers = ap (λ (i : ℕ). record { number = 0; reason = 0; left = 0; steps = steps; nodes = i; keys = s.keys }) n ∙ ap (λ (i : ℕ). record { number = 0; reason = 0; left = 0; steps = steps; nodes = length (node_table segwit (t ⊳ nil)); keys = i }) k;
+        answers = ap (λ (i : ℕ). record { steps = steps; nodes = i; keys = s.keys }) n ∙ ap (λ (i : ℕ). record { steps = steps; nodes = length (node_table segwit (t ⊳ nil)); keys = i }) k;
         nodes_are = whole_nodes nodes s.nodes (nodes_inside segwit script tokens count limits running) running.nodes_behind ∙ ap (nodes_in (length nodes)) table;
         keys_are = zeros_behind keys s.keys running.keys_in running.keys_behind ∙ ap (λ (ks : List ℕ). ks ++ zeros (length keys - s.keys)) f.keys_are ∙ ap (λ (i : ℕ). key_table (t ⊳ nil) ++ zeros (length keys - i)) k;
       })
@@ -201,11 +204,11 @@ module _ (segwit : Bool) (script tokens : List ℕ) (count : ℕ) (limits : Limi
     where
       by_base : (b : Bool) → eqb base_cell 1 ≡ b → decode segwit limits lexemes ≡ ends steps (pick b (accepted the_tree_lem.0) (refused (refusal 19 0 [])))
           → Runs segwit (decode segwit limits lexemes) nodes keys
-          (pick b (record { number = 0; reason = 0; left = 0; steps = steps; nodes = s.nodes; keys = s.keys }) (record { number = 19; reason = 0; left = 0; steps = steps; nodes = s.nodes; keys = s.keys }))
+          (pick b (Ok (ran_of s steps)) (halts 19 0 s steps))
       by_base true f v = accepts_here v
       by_base false f v = refuses_here 19 0 _ v refl (omega arith)
 
-  pub closed : {r : Ran} → r ≡ closes_with nodes s steps → Runs segwit (decode segwit limits lexemes) nodes keys r
+  pub closed : {r : Result Ran Halted} → r ≡ closes_with nodes s steps → Runs segwit (decode segwit limits lexemes) nodes keys r
   closed e = rw e (by_left s.left refl)
 
 -- No room for the two entries at the start
@@ -217,10 +220,10 @@ no_room segwit limits l h =
     let e : 8 * length (reverse_aux l []) + 2 ≡ suc (8 * length (reverse_aux l []) + 1) = omega arith in
     ap (carry_on segwit limits (8 * length (reverse_aux l []) + 2) 0) (ap (start segwit limits) (reverse-reverse l) ∙ started) ∙ ap (λ (k : ℕ). carry_on segwit limits k 0 (machine.stops (refusal 17 0 l))) e
 
-pub full_at_start : (segwit : Bool) (script tokens : List ℕ) (count : ℕ) (nodes keys work : List ℕ) {r : Ran} → length work < 2 → Behind nodes 0 → Behind keys 0
-    → r ≡ record { number = 17; reason = 0; left = count; steps = 0; nodes = 0; keys = 0 } → Runs segwit (decode segwit (room_of nodes keys work) (reverse_aux (lexemes_left script tokens count) [])) nodes keys r
-full_at_start segwit script tokens count nodes keys work h bn bk e =
-    rw (e, no_room segwit (room_of nodes keys work) (lexemes_left script tokens count) h) (record {
+pub full_at_start : (segwit : Bool) (script tokens : List ℕ) (count : ℕ) (nodes keys work : List ℕ) {stop : Stop} {h : Halted} → length work < 2 → Behind nodes 0 → Behind keys 0
+    → stop ≡ stop_of (counts count 0 0 0) 17 0 → h ≡ record { stop = stop; ran = ran_of (counts count 0 0 0) 0 } → Runs segwit (decode segwit (room_of nodes keys work) (reverse_aux (lexemes_left script tokens count) [])) nodes keys (Err h)
+full_at_start segwit script tokens count nodes keys work h bn bk e f =
+    rw (f, e, no_room segwit (room_of nodes keys work) (lexemes_left script tokens count) h) (record {
       number_is = refl;
       reason_is = refl;
       left_is = sym (newest_length _ count);
@@ -235,7 +238,7 @@ full_at_start segwit script tokens count nodes keys work h bn bk e =
 -- Lengths
 
 -- only the lengths of the tables are the room
-pub same_room : (segwit : Bool) (nodes keys work other : List ℕ) (l : List Lexeme) (n k : List ℕ) (r : Ran) → length work ≡ length other → Runs segwit (decode segwit (room_of nodes keys work) l) n k r → Runs segwit (decode segwit (room_of nodes keys other) l) n k r
+pub same_room : (segwit : Bool) (nodes keys work other : List ℕ) (l : List Lexeme) (n k : List ℕ) (r : Result Ran Halted) → length work ≡ length other → Runs segwit (decode segwit (room_of nodes keys work) l) n k r → Runs segwit (decode segwit (room_of nodes keys other) l) n k r
 same_room segwit nodes keys work other l n k r e h =
     subst (λ (i : ℕ). Runs segwit (decode segwit (record { nodes = length nodes / 9; keys = length keys; work = i }) l) n k r) e h
 

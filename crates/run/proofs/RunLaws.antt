@@ -1,4 +1,5 @@
 -- The loop of `run`: at each turn the tables hold what the machine on trees holds, and the run from there on is the run from the start. Assumes nothing.
+use Rattle.std.proofs.Common.{Result, Ok, Err, MatchResult}
 use mathlib.Core.Path.{◌≡◌, refl, sym, ap, subst, ◌∙◌}
 use mathlib.Core.Bool.{Bool, true, false}
 use mathlib.Core.List.{List, [], ◌∷◌, reverse_aux, reverse-reverse}
@@ -6,9 +7,9 @@ use Prim.Native.Nat.{ℕ, zero, suc, ◌+◌, ◌-◌, ◌*◌, ◌≤◌, ◌<�
 use native.Mathlib.Omega.{arith}
 use lib.Dec.{leb}
 use lib.ListN.{length, take, length-reverse_aux}
-use borrow.Author.Tests.{le-leb, leb-true}
+use borrow.Author.Tests.{le-leb, leb-true, leb-false}
 use Rattle.tables.specs.Choose.{pick}
-use Rattle.tables.specs.Tables.{newest}
+use Rattle.tables.specs.Tables.{newest, put_at}
 use Rattle.tables.proofs.BoolLaws.{left_true}
 use Rattle.tables.proofs.NewestLaws.{newest_length}
 use Rattle.lex.specs.Token.{Lexeme}
@@ -26,15 +27,43 @@ use Rattle.work_list.specs.Work.{entry_at, work_of}
 use Rattle.work_list.proofs.WorkLaws.{taken}
 use Rattle.forest.specs.Forest.{Forest}
 use Rattle.forest.proofs.ForestLaws.{forest_empty, nodes_counted}
-use Rattle.lists.specs.Lists.{Next, goes, stops, step_by}
+use Rattle.lists.specs.Lists.{goes, stops, step_by}
 use Rattle.lists.proofs.StepLaws.{Same, Tied, step_tied}
 use Rattle.writes.specs.declared.State.{State}
-use Rattle.writes.specs.declared.Step.{Step}
-use Rattle.writes.specs.declared.Step.TheVariants as step
-use Rattle.writes.specs.Written.{counts}
+use Rattle.writes.specs.declared.Stop.{Stop}
+use Rattle.writes.specs.Written.{Step, counts, stop_of, stopped, Enters}
 use Rattle.perform.specs.View.{view_of, seen, room_of, Behind, Kept, Steps}
-use Rattle.run.specs.declared.Ran.{Ran}
-use Rattle.run.specs.Runs.{Runs}
+use Rattle.run.specs.declared.Halted.{Halted}
+use Rattle.run.specs.Runs.{ran_of, halted, Runs}
+
+-- An answer with the count of steps, by what it was
+
+pub went_from : (r : Step) (s : State) (steps : ℕ) {t : State} → MatchResult r (λ (x : State). ◌≡◌ {A = Result State Halted} (Ok t) (Ok x)) (λ (stop : Stop). ◌≡◌ {A = Result State Halted} (Ok t) (halted stop s steps)) → r ≡ Ok t
+went_from (Ok x) s steps h = cc
+went_from (Err stop) s steps h = cc
+
+pub halted_from : (r : Step) (s : State) (steps : ℕ) {h : Halted} → MatchResult r (λ (x : State). ◌≡◌ {A = Result State Halted} (Err h) (Ok x)) (λ (stop : Stop). ◌≡◌ {A = Result State Halted} (Err h) (halted stop s steps))
+    → (stop : Stop) × (r ≡ Err stop) × (h ≡ record { stop = stop; ran = ran_of s steps })
+halted_from (Ok x) s steps h = absurd cc
+halted_from (Err stop) s steps h = (stop, refl, cc)
+
+-- Entries entered, by the answer
+
+module _ {work work' numbers : List ℕ} {s : State} {r : Step} (enters : Enters work work' s numbers r) where
+  pub entered_all : {t : State} → r ≡ Ok t → (s.work + length numbers ≤ length work) × ((work' ≡ put_at work s.work numbers) × (t ≡ counts s.left (s.work + length numbers) s.nodes s.keys))
+  entered_all {t} e = by_test (leb (s.work + length numbers) (length work)) refl (sym e ∙ enters.answers) enters.table
+    where
+      by_test : (b : Bool) → leb (s.work + length numbers) (length work) ≡ b → ◌≡◌ {A = Step} (Ok t) (pick b (Ok (counts s.left (s.work + length numbers) s.nodes s.keys)) (stopped s 17 0)) → work' ≡ pick b (put_at work s.work numbers) work
+          → (s.work + length numbers ≤ length work) × ((work' ≡ put_at work s.work numbers) × (t ≡ counts s.left (s.work + length numbers) s.nodes s.keys))
+      by_test true b h w = (leb-true (s.work + length numbers) (length work) b, (w, cc))
+      by_test false b h w = absurd cc
+
+  pub entered_none : {stop : Stop} → r ≡ Err stop → (length work < s.work + length numbers) × (stop ≡ stop_of s 17 0)
+  entered_none {stop} e = by_test (leb (s.work + length numbers) (length work)) refl (sym e ∙ enters.answers)
+    where
+      by_test : (b : Bool) → leb (s.work + length numbers) (length work) ≡ b → ◌≡◌ {A = Step} (Err stop) (pick b (Ok (counts s.left (s.work + length numbers) s.nodes s.keys)) (stopped s 17 0)) → (length work < s.work + length numbers) × (stop ≡ stop_of s 17 0)
+      by_test true b h = absurd cc
+      by_test false b h = (leb-false (s.work + length numbers) (length work) b, cc)
 
 -- What fits
 
@@ -210,18 +239,18 @@ module _ (segwit : Bool) (script tokens : List ℕ) (count : ℕ) (limits : Limi
           keys_in = ki;
         }
 
-    pub turned : {nodes' keys' work' : List ℕ} (t : State) {r : Step} → r ≡ step.Goes t → Steps segwit script tokens nodes keys work nodes' keys' work' s r → room_of nodes' keys' work' ≡ limits → Running nodes' keys' work' t (steps + 1)
+    pub turned : {nodes' keys' work' : List ℕ} (t : State) {r : Step} → r ≡ Ok t → Steps segwit script tokens nodes keys work nodes' keys' work' s r → room_of nodes' keys' work' ≡ limits → Running nodes' keys' work' t (steps + 1)
     turned {nodes'} {keys'} {work'} t {r} e h rooms =
-        let k : Kept nodes nodes' keys keys' s (step.Goes t) = rw e at h.kept in
-        let d : Tied segwit (seen script tokens nodes' keys' work' (step.Goes t)) next = rw e at (seen_tied nodes' keys' work' r h) in
+        let k : Kept nodes nodes' keys keys' s (Ok t) = rw e at h.kept in
+        let d : Tied segwit (seen script tokens nodes' keys' work' (Ok t)) next = rw e at (seen_tied nodes' keys' work' r h) in
         went_on nodes' keys' work' t next refl d rooms (k.0.0 running.nodes_behind) (k.0.1 running.keys_behind) k.1
 
     -- fewer steps are left
-    pub lighter : {nodes' keys' work' : List ℕ} (t : State) {r : Step} → r ≡ step.Goes t → Steps segwit script tokens nodes keys work nodes' keys' work' s r → room_of nodes' keys' work' ≡ limits
+    pub lighter : {nodes' keys' work' : List ℕ} (t : State) {r : Step} → r ≡ Ok t → Steps segwit script tokens nodes keys work nodes' keys' work' s r → room_of nodes' keys' work' ≡ limits
         → to_step (work_of work' t.work) (lexemes_left script tokens t.left) < to_step (work_of work s.work) (lexemes_left script tokens s.left)
     unfolding view_of
     lighter {nodes'} {keys'} {work'} t {r} e h rooms =
-        let d : Tied segwit (seen script tokens nodes' keys' work' (step.Goes t)) next = rw e at (seen_tied nodes' keys' work' r h) in
+        let d : Tied segwit (seen script tokens nodes' keys' work' (Ok t)) next = rw e at (seen_tied nodes' keys' work' r h) in
         by_next next refl d
       where
         by_next : (n : machine.Next) → next ≡ n → Tied segwit (goes (view_of script tokens nodes' keys' work' t)) n → to_step (work_of work' t.work) (lexemes_left script tokens t.left) < to_step (work_of work s.work) (lexemes_left script tokens s.left)
@@ -246,15 +275,15 @@ module _ (segwit : Bool) (script tokens : List ℕ) (count : ℕ) (limits : Limi
     keys_inside : s.keys ≤ length keys
     keys_inside = running.keys_in
 
-    refuses_counted : {nodes' keys' work' : List ℕ} (number reason before counted : ℕ) {r : Step} → r ≡ step.Stops number reason before → Steps segwit script tokens nodes keys work nodes' keys' work' s r → counted ≡ steps + 1
-        → Runs segwit (decode segwit limits lexemes) nodes' keys' (record { number = number; reason = reason; left = before; steps = counted; nodes = s.nodes; keys = s.keys })
-    refuses_counted {nodes'} {keys'} {work'} number reason before counted {r} e h one =
-        let k : Kept nodes nodes' keys keys' s (step.Stops number reason before) = rw e at h.kept in
-        let d : Tied segwit (seen script tokens nodes' keys' work' (step.Stops number reason before)) next = rw e at (seen_tied nodes' keys' work' r h) in
+    refuses_counted : {nodes' keys' work' : List ℕ} (stop : Stop) (counted : ℕ) {r : Step} → r ≡ Err stop → Steps segwit script tokens nodes keys work nodes' keys' work' s r → counted ≡ steps + 1
+        → Runs segwit (decode segwit limits lexemes) nodes' keys' (halted stop s counted)
+    refuses_counted {nodes'} {keys'} {work'} stop counted {r} e h one =
+        let k : Kept nodes nodes' keys keys' s (Err stop) = rw e at h.kept in
+        let d : Tied segwit (seen script tokens nodes' keys' work' (Err stop)) next = rw e at (seen_tied nodes' keys' work' r h) in
         rw (k.0, k.1) (by_next next refl d)
       where
-        by_next : (n : machine.Next) → next ≡ n → Tied segwit (stops (record { number = number; reason = reason; before = before })) n
-            → Runs segwit (decode segwit limits lexemes) nodes keys (record { number = number; reason = reason; left = before; steps = counted; nodes = s.nodes; keys = s.keys })
+        by_next : (n : machine.Next) → next ≡ n → Tied segwit (stops (record { number = stop.number; reason = stop.reason; before = stop.left })) n
+            → Runs segwit (decode segwit limits lexemes) nodes keys (halted stop s counted)
         by_next (machine.goes u) f g = absurd g
         by_next (machine.stops q) f g =
             let v : decode segwit limits lexemes ≡ ends (suc steps) (refused q) = run_on ∙ ap (carry_on segwit limits fewer (suc steps)) f ∙ carry_stops fewer (suc steps) q in
@@ -272,8 +301,7 @@ module _ (segwit : Bool) (script tokens : List ℕ) (count : ℕ) (limits : Limi
             })
 
     -- with the count apart, so that a wrong one is seen to be wrong
-    pub refuses : {nodes' keys' work' : List ℕ} (number reason before : ℕ) {counted : ℕ} {r : Step} {ran : Ran} → r ≡ step.Stops number reason before → Steps segwit script tokens nodes keys work nodes' keys' work' s r
-        → ran ≡ record { number = number; reason = reason; left = before; steps = counted; nodes = s.nodes; keys = s.keys } → ran.steps ≡ steps + 1 → Runs segwit (decode segwit limits lexemes) nodes' keys' ran
-    refuses {nodes'} {keys'} {work'} number reason before {counted} {r} {ran} e h is one =
-        let m : counted ≡ steps + 1 = sym (ap (λ (x : Ran). x.steps) is) ∙ one in
-        subst (λ (x : Ran). Runs segwit (decode segwit limits lexemes) nodes' keys' x) (sym is) (refuses_counted number reason before counted e h m)
+    pub refuses : {nodes' keys' work' : List ℕ} (stop : Stop) {counted : ℕ} {r : Step} {h : Halted} → r ≡ Err stop → Steps segwit script tokens nodes keys work nodes' keys' work' s r
+        → h ≡ record { stop = stop; ran = ran_of s counted } → counted ≡ steps + 1 → Runs segwit (decode segwit limits lexemes) nodes' keys' (Err h)
+    refuses {nodes'} {keys'} {work'} stop {counted} {r} {h} e taken is one =
+        subst (λ (x : Halted). Runs segwit (decode segwit limits lexemes) nodes' keys' (Err x)) (sym is) (refuses_counted stop counted e taken one)

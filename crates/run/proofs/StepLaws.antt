@@ -1,4 +1,5 @@
 -- A step of the code, read as a step on lists. Assumes nothing.
+use Rattle.std.proofs.Common.{Ok, Err}
 use mathlib.Core.Path.{◌≡◌, sym, ap, subst, ◌∙◌}
 use mathlib.Core.Bool.{Bool}
 use mathlib.Core.List.{List}
@@ -16,16 +17,14 @@ use Rattle.work_list.specs.Work.{unpacked, entry_at, work_of}
 use Rattle.lists.specs.Lists.{performed, step_by}
 use Rattle.lists.specs.Ready.{Ready, ReadyReading}
 use Rattle.writes.specs.declared.State.{State}
-use Rattle.writes.specs.declared.Step.{Step}
-use Rattle.writes.specs.declared.Step.TheVariants as step
-use Rattle.writes.specs.Written.{counts}
+use Rattle.writes.specs.Written.{Step, counts}
 use Rattle.perform.specs.View.{Inside, room_of, Kept, Performs, Steps}
 use Rattle.run.specs.Stepping.{Stepping}
 
 -- what is kept speaks of nodes and keys alone
 same_kept : (nodes nodes' keys keys' : List ℕ) (s : State) (left work : ℕ) (r : Step) → Kept nodes nodes' keys keys' (counts left work s.nodes s.keys) r → Kept nodes nodes' keys keys' s r
-same_kept nodes nodes' keys keys' s left work (step.Goes t) h = h
-same_kept nodes nodes' keys keys' s left work (step.Stops number reason before) h = h
+same_kept nodes nodes' keys keys' s left work (Ok t) h = h
+same_kept nodes nodes' keys keys' s left work (Err stop) h = h
 
 module _ (segwit : Bool) (script tokens nodes keys work : List ℕ) (s : State) (stepping : Stepping segwit script tokens nodes keys work s) (entry : NonTerm) (taken : entry ≡ unpacked (get_or work (s.work - 1) 0)) where
   pub countable : counted entry < 2147483648

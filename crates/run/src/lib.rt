@@ -2,27 +2,42 @@
 // that it asks for is judged (crate `judge`), and only then anything is written (crate `perform`).
 #![tactic(auto)]
 
-ghost use Rattle.std.specs.Prelude.{◌≡◌, ◌*◌, ◌≤◌, length};
+ghost use Rattle.std.specs.Prelude.{◌≡◌, ◌*◌, ◌≤◌, length, MatchResult};
 ghost use mathlib.Core.List.{[], reverse_aux};
 ghost use Rattle.standard.specs.Machine.{decode};
 ghost use Rattle.row.specs.Tokens.{InTable, lexemes_left};
 ghost use Rattle.perform.specs.View.{room_of, Behind, Steps};
 ghost use Rattle.run.specs.Stepping.{Stepping};
-ghost use Rattle.run.specs.Runs.{closes_with, Runs};
+ghost use Rattle.run.specs.Runs.{ran_of, halted, closes_with, Runs};
 
 use row::NonTerm;
-use writes::{State, Step};
+use writes::{State, Stop};
 
-// How a run ended: 0 or the refusal with how many tokens stand before the one that it is about; the steps; and how many
-// nodes and keys the tables hold.
+// How far a run came: the steps, and how many nodes and keys the tables hold.
 #[derive(Clone, Copy)]
 pub struct Ran {
-    pub number: u32,
-    pub reason: u32,
-    pub left: usize,
     pub steps: usize,
     pub nodes: usize,
     pub keys: usize,
+}
+
+// A run that a refusal ended, and how far it came.
+#[derive(Clone, Copy)]
+pub struct Halted {
+    pub stop: Stop,
+    pub ran: Ran,
+}
+
+impl Ran {
+    fn of(s: State, steps: usize) -> Ran
+        ensures { result ≡ ran_of s steps }
+    {
+        Ran {
+            steps,
+            nodes: s.nodes,
+            keys: s.keys,
+        }
+    }
 }
 
 // One entry taken off the work list.
@@ -34,53 +49,49 @@ fn step(
     keys: &mut [u32],
     work: &mut [u64],
     s: State,
-) -> Step
+) -> Result<State, Stop>
     requires { Stepping segwit script.now tokens.now nodes.old keys.old work.old s }
     ensures { Steps segwit script.now tokens.now nodes.old keys.old work.old nodes.new keys.new work.new s result }
 {
-    let w = s.work;
-    let left = s.left;
-    let entry = work_list::take(work, w);
-    let found = rows::row_of(segwit, script, tokens, left, entry);
-    let row = found.row;
+    let entry = work_list::take(work, s.work);
+    let found = rows::row_of(segwit, script, tokens, s.left, entry);
     let after = State {
         left: found.left,
-        work: w - 1,
-        nodes: s.nodes,
-        keys: s.keys,
+        work: s.work - 1,
+        ..s
     };
-    perform::perform(tokens, nodes, keys, work, after, row)
+    perform::perform(tokens, nodes, keys, work, after, found.row)
 }
 
-// A run's end.
-fn ended(number: u32, reason: u32, left: usize, steps: usize, nodes: usize, keys: usize) -> Ran
-    ensures { result ≡ record { number = number; reason = reason; left = left; steps = steps; nodes = nodes; keys = keys } }
+// A step's answer; a refusal says how far the run has come.
+fn counted(answer: Result<State, Stop>, s: State, steps: usize) -> Result<State, Halted>
+    ensures { MatchResult answer (λ t. result ≡ Ok t) (λ stop. result ≡ halted stop s steps) }
 {
-    Ran {
-        number,
-        reason,
-        left,
-        steps,
-        nodes,
-        keys,
-    }
+    answer.map_err(|stop| Halted {
+        stop,
+        ran: Ran::of(s, steps),
+    })
 }
 
 // The work list is empty: 18 if tokens are left over, 19 if the tree's base is not B.
-fn close(nodes: &[u32], s: State, steps: usize) -> Ran
+fn close(nodes: &[u32], s: State, steps: usize) -> Result<Ran, Halted>
     requires { (1 ≤ s.nodes) × (9 * s.nodes ≤ length nodes.now) }
     ensures { result ≡ closes_with nodes.now s steps }
 {
-    let left = s.left;
-    let m = s.nodes;
-    let keys = s.keys;
-    if 0 < left {
-        return ended(18, 0, left - 1, steps, m, keys);
+    let ran = Ran::of(s, steps);
+    if 0 < s.left {
+        let stop = Stop {
+            number: 18,
+            reason: 0,
+            left: s.left - 1,
+        };
+        return Err(Halted { stop, ran });
     }
-    if nodes[9 * (m - 1) + 5] != 1 {
-        return ended(19, 0, 0, steps, m, keys);
+    if nodes[9 * (s.nodes - 1) + 5] != 1 {
+        let stop = s.stop(19, 0);
+        return Err(Halted { stop, ran });
     }
-    ended(0, 0, 0, steps, m, keys)
+    Ok(ran)
 }
 
 // The rows, from the whole token list on. The node table and the key table are clear.
@@ -92,38 +103,24 @@ pub fn run(
     nodes: &mut [u32],
     keys: &mut [u32],
     work: &mut [u64],
-) -> Ran
+) -> Result<Ran, Halted>
     requires in_table { InTable tokens.now count }
     requires count_bound { (count ≤ 33554432) × (Behind nodes.old 0) × (Behind keys.old 0) }
     ensures { Runs segwit (decode segwit (room_of nodes.old keys.old work.old) (reverse_aux (lexemes_left script.now tokens.now count) [])) nodes.new keys.new result }
 {
-    if work.len() < 2 {
-        return ended(17, 0, count, 0, 0, 0);
-    }
-    work_list::enter2(work, 0, NonTerm::MaybeAndV, NonTerm::Expression);
-    let mut s = State {
+    let none = State {
         left: count,
-        work: 2,
+        work: 0,
         nodes: 0,
         keys: 0,
     };
+    let start = [NonTerm::MaybeAndV, NonTerm::Expression];
+    let mut s = counted(writes::enter(work, none, &start), none, 0)?;
     let mut steps: usize = 0;
     while 0 < s.work {
         let got = step(segwit, script, tokens, nodes, keys, work, s);
-        let counted = steps + 1;
-        match got {
-            Step::Goes(next) => {
-                s = next;
-                steps = counted;
-            }
-            Step::Stops {
-                number,
-                reason,
-                left,
-            } => {
-                return ended(number, reason, left, counted, s.nodes, s.keys);
-            }
-        }
+        steps += 1;
+        s = counted(got, s, steps)?;
     }
     close(nodes, s, steps)
 }

@@ -1,33 +1,14 @@
--- An entry as a number, and back: the arms of `pack` and of `unpack`, and that a packed entry is unpacked to itself. Assumes nothing.
+-- An entry as a number, and back: the arms of `unpack`, and that a packed entry is unpacked to itself. Assumes nothing.
 -- Why: the place in NonTerm's order is below 32, k below 2^32 and n takes what is above, so that each is found again by division.
-use mathlib.Core.Path.{◌≡◌, refl, sym, ap, subst, ◌∙◌}
+use mathlib.Core.Path.{◌≡◌, refl, sym, ap, ◌∙◌}
 use mathlib.Core.List.{[], ◌∷◌}
-use Prim.Native.Nat.{ℕ, zero, suc, ◌+◌, ◌-◌, ◌*◌, ◌%◌, ◌≤◌, ◌<◌}
+use Prim.Native.Nat.{ℕ, zero, suc, ◌+◌, ◌-◌, ◌*◌, ◌%◌, ◌≤◌}
 use native.Mathlib.Omega.{arith}
 use lib.ListN.{get_or}
 use lib.Seq.{get_or-drop}
 use Rattle.row.specs.declared.NonTerm.{NonTerm}
 use Rattle.row.specs.declared.NonTerm.TheVariants.{Expression, WExpression, Swap, MaybeAndV, Alt, Check, DupIf, Verify, NonZero, ZeroNotEqual, AndV, AndB, Tern, OrB, OrD, OrC, ThreshW, ThreshE, EndIf, EndIfNotIf, EndIfElse}
 use Rattle.work_list.specs.Work.{packed, Small, k_of, n_of, in_order, unpacked}
-
--- Packing
-
--- an arm's number is that of the entry
-pub packs : {e v : NonTerm} → e ≡ v → packed v ≡ packed e
-packs h = ap packed (sym h)
-
-module _ {e : NonTerm} {k n : ℕ} where
-  pub few_w : e ≡ ThreshW k n → Small e → n < 134217728
-  few_w h s = (subst Small h s).1
-
-  pub few_e : e ≡ ThreshE k n → Small e → n < 134217728
-  few_e h s = (subst Small h s).1
-
-  pub packs_w : e ≡ ThreshW k n → (r : ℕ) → r ≡ 32 * k + 137438953472 * n → 16 + r ≡ packed e
-  packs_w h r g = omega (arith, ap packed h)
-
-  pub packs_e : e ≡ ThreshE k n → (r : ℕ) → r ≡ 32 * k + 137438953472 * n → 17 + r ≡ packed e
-  packs_e h r g = omega (arith, ap packed h)
 
 -- Unpacking
 

@@ -1,10 +1,11 @@
--- The work list that a work table holds: what entering one, two or three entries makes of it, what taking one leaves, and that what lies above the newest entry never matters. Assumes nothing.
+-- The work list that a work table holds: what entering entries makes of it, what taking one leaves, and that what lies above the newest entry never matters. Assumes nothing.
 -- Why: an entry is read off one cell, and a packed entry is unpacked to itself.
 use mathlib.Core.Path.{◌≡◌, sym, ap, ◌∙◌}
-use mathlib.Core.List.{List, [], ◌∷◌, ◌++◌, map, reverse_aux}
+use mathlib.Core.List.{List, [], ◌∷◌, map, reverse_aux}
 use Prim.Native.Nat.{ℕ, zero, suc, ◌+◌, ◌-◌, ◌≤◌, ◌<◌}
 use native.Mathlib.Omega.{arith}
-use lib.ListN.{length, get_or, set, length-map, get_or-map}
+use lib.ListN.{length, get_or, set, take, length-map, get_or-map}
+use Rattle.std.proofs.lemmas.List.{length-take-le, map-append, take_more}
 use Rattle.tables.specs.Tables.{put_at}
 use Rattle.tables.proofs.PutLaws.{put_inside, put_before, put_more}
 use Rattle.tables.proofs.NewestLaws.{newest_same, newest_grown, newest_pop}
@@ -14,24 +15,23 @@ use Rattle.row.specs.Request.{entry_of}
 use Rattle.work_list.specs.Work.{packed, Small, AllSmall, unpacked, entry_at, work_of}
 use Rattle.work_list.proofs.PackLaws.{unpacked_packed}
 
--- One store more, of an entry's number, in what `enter1`, `enter2` and `enter3` write
+-- One store more, of an entry's number: before turn i of `enter` the first i entries are written
 
-module _ (work : List ℕ) (w : ℕ) where
-  pub enters_first : {x : ℕ} (a : NonTerm) → x ≡ packed a → set work w x ≡ put_at work w (packed a ∷ [])
-  enters_first a p = ap (set work w) p
-
-  pub enters_more : {written : List ℕ} {x : ℕ} (a : NonTerm) (es : List NonTerm) → written ≡ put_at work w (map packed es) → x ≡ packed a
-      → set written (w + length es) x ≡ put_at work w (map packed es ++ (packed a ∷ []))
-  enters_more {written} a es e p =
-      ap (set written (w + length es)) p
-      ∙ ap (λ (t : List ℕ). set t (w + length es) (packed a)) e
-      ∙ ap (λ (n : ℕ). set (put_at work w (map packed es)) (w + n) (packed a)) (sym (length-map es packed))
-      ∙ put_more work w (map packed es) (packed a)
+pub enters_more : (work : List ℕ) (w : ℕ) {written : List ℕ} {i x : ℕ} (es : List NonTerm) → i < length es → written ≡ put_at work w (map packed (take i es)) → x ≡ packed (get_or es i Expression)
+    → set written (w + i) x ≡ put_at work w (map packed (take (i + 1) es))
+enters_more work w {written} {i} es h e p =
+    let a : NonTerm = get_or es i Expression in
+    let l : length (map packed (take i es)) ≡ i = length-map (take i es) packed ∙ length-take-le i es (omega arith) in
+    ap (set written (w + i)) p
+    ∙ ap (λ (t : List ℕ). set t (w + i) (packed a)) e
+    ∙ ap (λ (n : ℕ). set (put_at work w (map packed (take i es))) (w + n) (packed a)) (sym l)
+    ∙ put_more work w (map packed (take i es)) (packed a)
+    ∙ ap (put_at work w) (sym (map-append packed (take i es) (a ∷ [])) ∙ ap (map packed) (sym (take_more es i Expression h)))
 
 -- Entering
 
 -- the entries of a list of entries
-all_small : (es : List NonTerm) → AllSmall es → (j : ℕ) → j < length es → Small (get_or es j Expression)
+pub all_small : (es : List NonTerm) → AllSmall es → (j : ℕ) → j < length es → Small (get_or es j Expression)
 all_small [] s j h = absurd (omega arith)
 all_small (e ∷ es) s zero h = s.0
 all_small (e ∷ es) s (suc j) h = all_small es s.1 j (omega arith)
@@ -56,16 +56,6 @@ module _ (work : List ℕ) (w : ℕ) where
       let l : length (map entry_of es) ≡ length es = length-map es entry_of in
       ap (λ (n : ℕ). work_of (put_at work w (map packed es)) (w + n)) (sym l)
       ∙ newest_grown (entry_at work) (entry_at (put_at work w (map packed es))) w (map entry_of es) (entry_of Expression) (kept es) (λ j b. written es h s j (omega arith))
-
-  pub entered_one : (a : NonTerm) → w + 1 ≤ length work → Small a → work_of (put_at work w (packed a ∷ [])) (w + 1) ≡ entry_of a ∷ work_of work w
-  entered_one a h s = entered (a ∷ []) h (s, tt)
-
-  pub entered_two : (a b : NonTerm) → w + 2 ≤ length work → Small a → Small b → work_of (put_at work w (packed a ∷ packed b ∷ [])) (w + 2) ≡ entry_of b ∷ entry_of a ∷ work_of work w
-  entered_two a b h s t = entered (a ∷ b ∷ []) h (s, (t, tt))
-
-  pub entered_three : (a b c : NonTerm) → w + 3 ≤ length work → Small a → Small b → Small c
-      → work_of (put_at work w (packed a ∷ packed b ∷ packed c ∷ [])) (w + 3) ≡ entry_of c ∷ entry_of b ∷ entry_of a ∷ work_of work w
-  entered_three a b c h s t u = entered (a ∷ b ∷ c ∷ []) h (s, (t, (u, tt)))
 
 -- Taking
 

@@ -2,24 +2,18 @@
 // pop writes nothing, since what lies above the newest entry is never read.
 #![tactic(auto)]
 
-ghost use Rattle.std.specs.Prelude.{◌≡◌, [], ◌∷◌, ◌+◌, ◌-◌, ◌*◌, ◌/◌, ◌≤◌, ◌<◌, length, get_or};
+ghost use Rattle.std.specs.Prelude.{◌≡◌, map, ◌+◌, ◌-◌, ◌*◌, ◌/◌, ◌≤◌, ◌<◌, length, get_or};
 ghost use Rattle.tables.specs.Tables.{put_at};
-ghost use Rattle.work_list.specs.Work.{packed, Small, k_of, n_of, unpacked};
+ghost use Rattle.work_list.specs.Work.{packed, Small, AllSmall, k_of, n_of, unpacked};
 
 use row::NonTerm;
-
-fn word(x: u32) -> u64
-    ensures { result ≡ x }
-{
-    x as u64
-}
 
 // A thresh's k and n above its place in NonTerm's order.
 fn counts(k: u32, n: u32) -> u64
     requires { n < 134217728 }
     ensures { result ≡ 32 * k + 137438953472 * n }
 {
-    32 * word(k) + 137438953472 * word(n)
+    32 * u64::from(k) + 137438953472 * u64::from(n)
 }
 
 // An entry as a number: its place in NonTerm's order, k and n.
@@ -67,6 +61,7 @@ fn n_of(number: u64) -> u32
 }
 
 // The entry of a number.
+#[tactic(auto, unfolding(crate::specs::Work::unpacked))]
 pub fn unpack(number: u64) -> NonTerm
     ensures { result ≡ unpacked number }
 {
@@ -102,30 +97,14 @@ pub fn unpack(number: u64) -> NonTerm
     }
 }
 
-// One entry more, above the w in use.
-pub fn enter1(work: &mut [u64], w: usize, a: NonTerm)
-    requires { (w + 1 ≤ length work.old) × Small a }
-    ensures { work.new ≡ put_at work.old w (packed a ∷ []) }
+// Entries above the w in use, in the order in which decode.rs pushes them: the last one on top.
+pub fn enter(work: &mut [u64], w: usize, entries: &[NonTerm])
+    requires { (w + length entries.now ≤ length work.old) × AllSmall entries.now }
+    ensures { work.new ≡ put_at work.old w (map packed entries.now) }
 {
-    work[w] = pack(a);
-}
-
-// Two more, in the order in which decode.rs pushes them: the last one on top.
-pub fn enter2(work: &mut [u64], w: usize, a: NonTerm, b: NonTerm)
-    requires { (w + 2 ≤ length work.old) × Small a × Small b }
-    ensures { work.new ≡ put_at work.old w (packed a ∷ packed b ∷ []) }
-{
-    enter1(work, w, a);
-    work[w + 1] = pack(b);
-}
-
-// Three more.
-pub fn enter3(work: &mut [u64], w: usize, a: NonTerm, b: NonTerm, c: NonTerm)
-    requires { (w + 3 ≤ length work.old) × Small a × Small b × Small c }
-    ensures { work.new ≡ put_at work.old w (packed a ∷ packed b ∷ packed c ∷ []) }
-{
-    enter2(work, w, a, b);
-    work[w + 2] = pack(c);
+    for (i, e) in entries.iter().enumerate() {
+        work[w + i] = pack(*e);
+    }
 }
 
 // The newest of the w entries in use.

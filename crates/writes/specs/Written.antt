@@ -1,5 +1,5 @@
 -- For the proof: what the parts of a step answer and write, by how much the tables hold: 17 where entries don't fit, 15 where a node doesn't, 16 where keys don't, and 14 where no rule types a node. From document 01, "When the desk says no".
-use Rattle.std.specs.Prelude.{Bool, true, false, ◌≡◌, List, [], ◌∷◌, ℕ, ◌+◌, ◌*◌, ◌/◌, eqb, leb, length}
+use Rattle.std.specs.Prelude.{Result, Ok, Err, Bool, true, false, ◌≡◌, List, [], ◌∷◌, ℕ, ◌+◌, ◌*◌, ◌/◌, eqb, leb, length}
 use Rattle.tables.specs.Choose.{pick}
 use Rattle.tables.specs.Tables.{put_at}
 use Rattle.standard.specs.Table.{Node, cells}
@@ -7,36 +7,29 @@ use Rattle.row.specs.declared.NonTerm.TheVariants.{Verify}
 use Rattle.judge.specs.Nodes.{Making, makes, refuses}
 use Rattle.work_list.specs.Work.{packed}
 use Rattle.writes.specs.declared.State.{State}
-use Rattle.writes.specs.declared.Step.{Step}
-use Rattle.writes.specs.declared.Step.TheVariants as step
+use Rattle.writes.specs.declared.Stop.{Stop}
 
 abbrev pub counts : ℕ → ℕ → ℕ → ℕ → State
 counts left work nodes keys = record { left = left; work = work; nodes = nodes; keys = keys }
 
+-- what a step answers: how many there are of each then, or a refusal
+abbrev pub Step : Type 0
+Step = Result State Stop
+
+-- a refusal is about the last token taken
+abbrev pub stop_of : State → ℕ → ℕ → Stop
+stop_of s number reason = record { number = number; reason = reason; left = s.left }
+
 abbrev pub stopped : State → ℕ → ℕ → Step
-stopped s number reason = step.Stops number reason s.left
+stopped s number reason = Err (stop_of s number reason)
 
--- the number of a refusal, 0 if there is none: no rule types a node; no room for one node, some keys or one entry more
-abbrev pub type_refusal : Making → ℕ
-type_refusal (makes x) = 0
-type_refusal (refuses reason) = 14
-
-abbrev pub node_refusal : ℕ → ℕ → ℕ
-node_refusal cells m = pick (leb (m + 1) (cells / 9)) 0 15
-
-abbrev pub keys_refusal : ℕ → ℕ → ℕ → ℕ
-keys_refusal room have more = pick (leb (have + more) room) 0 16
-
-abbrev pub work_refusal : ℕ → ℕ → ℕ
-work_refusal room w = pick (leb (w + 1) room) 0 17
-
--- the earlier of two
+-- the earlier of two refusals; 0 is none
 abbrev pub earlier_of : ℕ → ℕ → ℕ
 earlier_of a b = pick (eqb a 0) b a
 
 -- entries with these numbers, on top of those in use: 17, and nothing is written, if they don't fit
 abbrev pub enters_step : ℕ → State → ℕ → Step
-enters_step room s more = pick (leb (s.work + more) room) (step.Goes (counts s.left (s.work + more) s.nodes s.keys)) (stopped s 17 0)
+enters_step room s more = pick (leb (s.work + more) room) (Ok (counts s.left (s.work + more) s.nodes s.keys)) (stopped s 17 0)
 
 abbrev pub enters_work : List ℕ → State → List ℕ → List ℕ
 enters_work work s numbers = pick (leb (s.work + length numbers) (length work)) (put_at work s.work numbers) work
@@ -47,7 +40,7 @@ pub record Enters (before now : List ℕ) (s : State) (numbers : List ℕ) (r : 
 
 -- one node more: 15, and nothing is written, if it doesn't fit
 abbrev pub stores_step : ℕ → State → Step
-stores_step cells s = pick (leb (s.nodes + 1) (cells / 9)) (step.Goes (counts s.left s.work (s.nodes + 1) s.keys)) (stopped s 15 0)
+stores_step cells s = pick (leb (s.nodes + 1) (cells / 9)) (Ok (counts s.left s.work (s.nodes + 1) s.keys)) (stopped s 15 0)
 
 abbrev pub stores_nodes : List ℕ → State → Node → List ℕ
 stores_nodes nodes s x = pick (leb (s.nodes + 1) (length nodes / 9)) (put_at nodes (9 * s.nodes) (cells x)) nodes
@@ -65,7 +58,7 @@ Finishes before now s (refuses reason) r = (r ≡ stopped s 14 reason) × (now �
 abbrev pub verified_step : ℕ → ℕ → State → Step
 verified_step cells room s =
     pick (leb (s.nodes + 1) (cells / 9))
-    (pick (leb (s.work + 1) room) (step.Goes (counts s.left (s.work + 1) (s.nodes + 1) s.keys)) (stopped s 17 0))
+    (pick (leb (s.work + 1) room) (Ok (counts s.left (s.work + 1) (s.nodes + 1) s.keys)) (stopped s 17 0))
     (stopped s 15 0)
 
 abbrev pub when_verified : List ℕ → List ℕ → State → List ℕ → List ℕ → List ℕ
@@ -85,7 +78,7 @@ Leaves nodes nodes' work work' s x false r = Stores nodes nodes' s x r × (work'
 abbrev pub keyed_step : ℕ → ℕ → State → ℕ → Step
 keyed_step cells room s more =
     pick (leb (s.keys + more) room)
-    (pick (leb (s.nodes + 1) (cells / 9)) (step.Goes (counts s.left s.work (s.nodes + 1) (s.keys + more))) (stopped s 15 0))
+    (pick (leb (s.nodes + 1) (cells / 9)) (Ok (counts s.left s.work (s.nodes + 1) (s.keys + more))) (stopped s 15 0))
     (stopped s 16 0)
 
 abbrev pub when_keyed : List ℕ → List ℕ → State → ℕ → List ℕ → List ℕ → List ℕ

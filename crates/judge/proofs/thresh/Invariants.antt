@@ -1,10 +1,6 @@
 -- `judge::thresh` meets its contract. The loop of ThresholdLaws.
-use Prim.Native.Nat.{◌-◌}
 use Rattle.judge.proofs.ThresholdLaws.{Threshing}
 use Rattle.judge.proofs.thresh.Given as goal
 
 abbrev pub invariant-loop-i : goal.invariant-loop-i
 invariant-loop-i l = Threshing l.nodes l.m l.k l.n l.earlier l.at l.size l.i
-
-abbrev pub decreases-loop-i : goal.decreases-loop-i
-decreases-loop-i l = l.n - l.i

@@ -1,10 +1,6 @@
 -- `node_store::copy_keys` meets its contract.
-use Prim.Native.Nat.{◌-◌}
 use Rattle.node_store.proofs.KeyLaws.{Copying}
 use Rattle.node_store.proofs.copy_keys.Given as goal
 
 abbrev pub invariant-loop-i : goal.invariant-loop-i
 invariant-loop-i l = Copying l.tokens l.initial.keys l.keys l.from l.n l.first l.stride l.i l.at
-
-abbrev pub decreases-loop-i : goal.decreases-loop-i
-decreases-loop-i l = l.n - l.i

@@ -3,22 +3,23 @@ use Rattle.judge.specs.NodeTable.{node_of, making_of}
 use Rattle.perform.proofs.ArmLaws.{told, leaf_told, keys_told, one_told, two_told, three_told}
 use Rattle.perform.proofs.PerformLaws.{one_performs, two_performs, three_performs, many_performs, refused_performs, goes_performs}
 use Rattle.perform.proofs.perform.Goals as goal
-use mathlib.Core.Path.{refl}
+use mathlib.Core.Path.{refl, ap}
+use Rattle.std.proofs.Common.{Err}
 
 pub returns-in-Refused : goal.returns-in-Refused
-returns-in-Refused c = told c.args.row _ c.in-Refused.is (refused_performs c.args.tokens.now c.args.nodes.now c.args.keys.now c.args.work.now c.args.s c.requires.inside _ c.stop.ensures)
+returns-in-Refused c = told c.args.row _ c.in-Refused.is (refused_performs c.args.tokens.now c.args.nodes.now c.args.keys.now c.args.work.now c.args.s c.requires.inside _ (ap Err c.stop.ensures))
 
 pub returns-in-Enter0 : goal.returns-in-Enter0
 returns-in-Enter0 c = told c.args.row _ c.in-Enter0.is (goes_performs c.args.tokens.now c.args.nodes.now c.args.keys.now c.args.work.now c.args.s c.requires.inside refl)
 
 pub returns-in-Enter1 : goal.returns-in-Enter1
-returns-in-Enter1 c = one_told c.args.tokens.now c.args.nodes.now c.args.keys.now c.args.work.now c.args.s c.requires.inside c.args.row c.requires.ready c.in-Enter1.is c.enter1.ensures
+returns-in-Enter1 c = one_told c.args.tokens.now c.args.nodes.now c.args.keys.now c.args.work.now c.args.s c.requires.inside c.args.row c.requires.ready c.in-Enter1.is c.enter.ensures
 
 pub returns-in-Enter2 : goal.returns-in-Enter2
-returns-in-Enter2 c = two_told c.args.tokens.now c.args.nodes.now c.args.keys.now c.args.work.now c.args.s c.requires.inside c.args.row c.requires.ready c.in-Enter2.is c.enter2.ensures
+returns-in-Enter2 c = two_told c.args.tokens.now c.args.nodes.now c.args.keys.now c.args.work.now c.args.s c.requires.inside c.args.row c.requires.ready c.in-Enter2.is c.enter-in-Enter2.ensures
 
 pub returns-in-Enter3 : goal.returns-in-Enter3
-returns-in-Enter3 c = three_told c.args.tokens.now c.args.nodes.now c.args.keys.now c.args.work.now c.args.s c.requires.inside c.args.row c.requires.ready c.in-Enter3.is c.enter3.ensures
+returns-in-Enter3 c = three_told c.args.tokens.now c.args.nodes.now c.args.keys.now c.args.work.now c.args.s c.requires.inside c.args.row c.requires.ready c.in-Enter3.is c.enter-in-Enter3.ensures
 
 pub returns-in-Leaf : goal.returns-in-Leaf
 returns-in-Leaf c = leaf_told c.args.tokens.now c.args.nodes.now c.args.keys.now c.args.work.now c.args.s c.requires.inside c.args.row c.in-Leaf.is (node_of c.leaf.result) _ _ _ c.leaf.ensures c.leaf-in-Leaf.ensures

@@ -1,2 +1,0 @@
--- Laws of what a step writes.
-pub mod RoomLaws
