@@ -92,7 +92,7 @@ fn with_number(counts: bool, key: u32) -> Shape
 }
 
 // How many bytes a pk_k's key has.
-fn key_length(segwit: bool) -> u32
+pub fn key_length(segwit: bool) -> u32
     ensures { result ≡ key_length segwit }
 {
     if segwit { 33 } else { 32 }
