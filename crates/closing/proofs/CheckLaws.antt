@@ -14,10 +14,22 @@ use Rattle.standard.specs.Table.{Node, node_at, terminal_of}
 use Rattle.encoding.specs.Form.{Shape, shape_of, unused_are_zero, all_within, keys_named, in_range, child_count}
 use Rattle.encoding.specs.Values.{value_refusal}
 use Rattle.node_shape.proofs.RowLaws.{names_keys_lem}
-use Rattle.closing.specs.declared.Verdict.{Verdict}
-use Rattle.closing.specs.Verdicts.{verdict}
+use native.Mathlib.Omega.{arith}
+use Rattle.node_shape.specs.declared.ValueError.TheVariants.{KeyForm, Locktime, Threshold}
+use Rattle.closing.specs.declared.Refusal.{Refusal}
+use Rattle.closing.specs.declared.Refusal.TheVariants.{NotOneTree, Value, WrongType, TopNotB}
+use Rattle.closing.specs.Verdicts.{Verdict, verdict, refusal_verdict}
 use Rattle.closing.specs.Held.{Rooted, fits_from, type_held, Children, formed_held, judged_held, value_held, shape_checked, check_held}
 use Rattle.closing.proofs.RootLaws.{fits_on_trees, subtrees_there}
+
+-- every refusal has a number
+pub refusal_numbered : (r : Refusal) → (refusal_verdict r).number ≡ 0 → ⊥
+refusal_numbered NotOneTree e = omega arith
+refusal_numbered (Value KeyForm) e = omega arith
+refusal_numbered (Value Locktime) e = omega arith
+refusal_numbered (Value Threshold) e = omega arith
+refusal_numbered (WrongType reason) e = omega arith
+refusal_numbered TopNotB e = omega arith
 
 value_told : (w : ℕ) (next : Verdict) → (w ≡ 0 → ⊥) → verdict w 0 ≡ value_held w next
 value_told zero next h = absurd (h refl)

@@ -29,8 +29,7 @@ use Rattle.encoding.specs.Form.{Shape, shape_of, unused_are_zero, in_range, chil
 use Rattle.encoding.specs.Values.{value_refusal_of, value_refusal}
 use Rattle.encoding.specs.Checks.{Checked, finished, refused, holds_type, type_checked, newest_checked, value_checked, check_node}
 use Rattle.node_shape.proofs.RowLaws.{of_terminal}
-use Rattle.closing.specs.declared.Verdict.{Verdict}
-use Rattle.closing.specs.Verdicts.{verdict}
+use Rattle.closing.specs.Verdicts.{Verdict, verdict}
 use Rattle.closing.specs.Held.{RootsAt, top_type, under, types_held, pair_held, and_or_held, type_held, formed_held, judged_held, value_held, shape_checked, check_held}
 use Rattle.closing.proofs.RootLaws.{first_trees, rest_trees, fits_on_trees, types_on_trees}
 

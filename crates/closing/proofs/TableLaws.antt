@@ -23,8 +23,7 @@ use Rattle.encoding.specs.Checks.{Checked, finished, and_then, check_node, check
 use Rattle.encoding.specs.Encoding.{nodes_from, node_count, tree_in}
 use Rattle.encoding.proofs.Passed.{passed}
 use Rattle.encoding.proofs.Stands.{Stands, empty, more}
-use Rattle.closing.specs.declared.Verdict.{Verdict}
-use Rattle.closing.specs.Verdicts.{verdict, verdict_on}
+use Rattle.closing.specs.Verdicts.{Verdict, verdict, verdict_on}
 use Rattle.closing.specs.Held.{RootsAt, Rooted, top_type, check_held, base_told, odd_told, size_told, root_held}
 use Rattle.closing.proofs.RootLaws.{stands_roots}
 use Rattle.closing.proofs.NodeLaws.{verdict_for, check_told, passes_at_0}

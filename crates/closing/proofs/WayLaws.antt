@@ -1,70 +1,30 @@
 -- The ways through the code of the closing checks, against what is held of the flat table: sizes, types, and the loops over a node's children. Assumes nothing.
 use mathlib.Core.Path.{◌≡◌, refl, sym, ap, ◌∙◌, subst}
-use mathlib.Core.Bool.{Bool, true, false, ◌&&◌, not}
+use mathlib.Core.Bool.{Bool, true, false, not}
 use mathlib.Core.List.{List}
 use Prim.Native.Nat.{ℕ, suc, ◌+◌, ◌-◌, ◌≤◌, ◌<◌, ◌%◌}
 use native.Mathlib.Omega.{arith}
 use borrow.Author.Tests.{not-true, not-false, lt-ltb, le-ltb, eq-eqb, ne_eqb}
 use lib.Dec.{eqb, ltb}
 use lib.ListN.{length}
-use Rattle.base_input.specs.Numbers.{base_number, input_number, bool_number}
 use Rattle.base_input.specs.Tests.{is_b}
 use Rattle.correctness.specs.declared.Correctness.{Correctness}
 use Rattle.correctness.specs.declared.ErrorKind.{ErrorKind}
 use Rattle.correctness.specs.declared.Leaf.{Leaf}
 use Rattle.correctness.specs.declared.Typed.{Typed}
 use Rattle.correctness.specs.declared.Typed.TheVariants.{Is, Not}
-use Rattle.correctness.specs.Reasons.{reason}
-use Rattle.correctness.specs.Rules.{leaf_type, and_or, no_children, threshold_child, threshold_from, threshold, onward}
+use Rattle.correctness.specs.Rules.{leaf_type, no_children, threshold_child, threshold_from, threshold, onward}
 use Rattle.tables.specs.Choose.{pick}
 use Rattle.standard.specs.Tree.{Trees, nil, ◌⊳◌}
 use Rattle.standard.specs.Table.{Node, node_cells, node_at}
-use Rattle.judge.specs.Nodes.{held_type, leaf_of, cast_of, combination_of}
+use Rattle.judge.specs.Nodes.{held_type, leaf_of, cast_of}
 use Rattle.judge.specs.NodeTable.{size_at, Subtrees}
 use Rattle.judge.specs.NodeTableLaws.{one_more, next_there}
-use Rattle.encoding.specs.Form.{Shape, unused_are_zero, in_range, child_count}
-use Rattle.encoding.specs.Checks.{holds_type}
+use Rattle.encoding.specs.Form.{Shape}
 use Rattle.encoding.specs.Encoding.{node_count}
 use Rattle.node_shape.proofs.ValueLaws.{first, second}
-use Rattle.closing.specs.declared.Verdict.{Verdict}
-use Rattle.closing.specs.Verdicts.{verdict}
-use Rattle.closing.specs.Held.{RootsAt, Rooted, top_type, under, fits_from, types_held, pair_held, and_or_held, type_held, Children, formed_held, judged_held, base_told, odd_told, size_told, root_held}
-
--- A stored type
-
-pub stored : (number : ℕ) (says : Bool) {b : Bool} → says ≡ b → eqb number (bool_number b) ≡ eqb number (bool_number says)
-stored number says e = ap (λ (b : Bool). eqb number (bool_number b)) (sym e)
-
-pub type_held_lem : (n : Node) (c : Correctness) {base input : ℕ} {d u p q r : Bool} → base ≡ base_number c.base → input ≡ input_number c.input → d ≡ eqb n.d (bool_number c.dissatisfiable) → u ≡ eqb n.u (bool_number c.unit)
-    → p ≡ (d && u) → q ≡ (eqb n.input input && p) → r ≡ (eqb n.base base && q) → r ≡ holds_type n c
-type_held_lem n c {base} {input} {d} {u} {p} {q} {r} b i e f g h j =
-    j
-    ∙ ap (λ (x : ℕ). eqb n.base x && q) b
-    ∙ ap (λ (x : Bool). eqb n.base (base_number c.base) && x)
-    (h
-    ∙ ap (λ (x : ℕ). eqb n.input x && p) i
-    ∙ ap (λ (x : Bool). eqb n.input (input_number c.input) && x)
-    (g ∙ ap (λ (x : Bool). x && u) e ∙ ap (λ (x : Bool). eqb n.d (bool_number c.dissatisfiable) && x) f))
-
--- A node's fields
-
-module _ (material : ℕ) (keys : List ℕ) (s : Shape) (n : Node) (table : List ℕ) (m : ℕ) {a : Bool} (unused : a ≡ unused_are_zero s n) where
-  pub field_used : not a ≡ true → false ≡ formed_held material keys s n table m
-  field_used h = sym (ap (λ (b : Bool). b && (in_range material keys s n && fits_from table (child_count s n) m m n.size)) (sym unused ∙ not-true a h))
-
-  module _ (h : not a ≡ false) {b : Bool} (range : b ≡ in_range material keys s n) where
-    fields_right : (in_range material keys s n && fits_from table (child_count s n) m m n.size) ≡ formed_held material keys s n table m
-    fields_right = sym (ap (λ (x : Bool). x && (in_range material keys s n && fits_from table (child_count s n) m m n.size)) (sym unused ∙ not-false a h))
-
-    pub out_of_range : not b ≡ true → false ≡ formed_held material keys s n table m
-    out_of_range g = sym (ap (λ (x : Bool). x && fits_from table (child_count s n) m m n.size) (sym range ∙ not-true b g)) ∙ fields_right
-
-    pub sized : {r : Bool} {k : ℕ} → not b ≡ false → k ≡ child_count s n → r ≡ fits_from table k m m n.size → r ≡ formed_held material keys s n table m
-    sized g c e =
-        e
-        ∙ ap (λ (j : ℕ). fits_from table j m m n.size) c
-        ∙ sym (ap (λ (x : Bool). x && fits_from table (child_count s n) m m n.size) (sym range ∙ not-false b g))
-        ∙ fields_right
+use Rattle.closing.specs.Verdicts.{Verdict, verdict}
+use Rattle.closing.specs.Held.{RootsAt, Rooted, top_type, under, fits_from, types_held, pair_held, and_or_held, type_held, base_told, odd_told, size_told, root_held}
 
 -- The loop over a node's children: before child i
 
@@ -81,20 +41,12 @@ newest_inside t at segwit (x ⊳ ts) r h =
     (omega (arith, r.0, r.1), record { segwit = segwit; trees = ts; roots = subst (λ (k : ℕ). RootsAt segwit t (at - k) ts) (sym r.1) r.3 })
 
 module _ (t : List ℕ) (m children size : ℕ) where
-  pub sizing : Rooted t m → Sizing t m children size m 0
-  sizing r =
-      let z : children - 0 ≡ children = omega arith in
-      record { counted = omega arith; inside = omega arith; rooted = r; same = ap (λ (k : ℕ). fits_from t k m m size) z }
-
   module _ {at i : ℕ} (h : Sizing t m children size at i) where
     pub child_inside : 1 ≤ at → (size_at t (at - 1) ≤ at) × Rooted t (at - size_at t (at - 1))
     child_inside some = newest_inside t at h.rooted.segwit h.rooted.trees h.rooted.roots some
 
     one_child_more : i < children → pick (ltb at 1) false (fits_from t (children - (i + 1)) (under t at) m size) ≡ fits_from t children m m size
     one_child_more more = let e : children - i ≡ suc (children - (i + 1)) = omega arith in sym (ap (λ (k : ℕ). fits_from t k at m size) e) ∙ h.same
-
-    pub no_tree_left : i < children → at < 1 → false ≡ fits_from t children m m size
-    no_tree_left more none = first (ltb at 1) false (fits_from t (children - (i + 1)) (under t at) m size) refl (lt-ltb at 1 none) ∙ one_child_more more
 
     pub sizing_again : {s : ℕ} → i < children → 1 ≤ at → s ≡ size_at t (at - 1) → Sizing t m children size (at - s) (i + 1)
     sizing_again {s} more some e =
@@ -108,57 +60,6 @@ module _ (t : List ℕ) (m children size : ℕ) where
               ∙ second (ltb at 1) false (fits_from t (children - (i + 1)) (under t at) m size) refl (le-ltb at 1 some)
               ∙ one_child_more more;
         }
-
-    pub all_sized : children ≤ i → eqb size (m - at + 1) ≡ fits_from t children m m size
-    all_sized most = let z : children - i ≡ 0 = omega arith in sym (ap (λ (k : ℕ). fits_from t k at m size) z) ∙ h.same
-
--- Types of two and three children
-
-module _ (t : List ℕ) (m : ℕ) {p : ℕ} (p-is : p ≡ size_at t (m - 1)) where
-  pub record TwoThere : Type 0 where
-    pub some : 1 ≤ m
-    pub first_inside : p ≤ m
-    pub second_there : 1 ≤ m - p
-
-  pub two_there : Subtrees 2 m t → TwoThere
-  two_there h =
-      record { some = h.0; first_inside = omega (arith, h.2, p-is); second_there = subst (λ (k : ℕ). 1 ≤ m - k) (sym p-is) h.3.0 }
-
-  pub pair_typed : (kind : ℕ) {a b : Correctness} {r : Typed} → a ≡ held_type (node_at t (m - 1)) → b ≡ held_type (node_at t (m - p - 1)) → r ≡ combination_of kind a b → r ≡ pair_held t m kind
-  pair_typed kind {a} {b} x y e =
-      e
-      ∙ ap (λ (c : Correctness). combination_of kind c b) x
-      ∙ ap (λ (c : Correctness). combination_of kind (top_type t m) c) (y ∙ ap (λ (k : ℕ). top_type t (m - k)) p-is)
-
-  module _ {q : ℕ} (q-is : q ≡ size_at t (m - p - 1)) where
-    pub record ThreeThere : Type 0 where
-      pub some : 1 ≤ m
-      pub first_inside : p ≤ m
-      pub second_there : 1 ≤ m - p
-      pub second_inside : q ≤ m - p
-      pub third_there : 1 ≤ m - p - q
-
-    rest_there : Subtrees 3 m t → Subtrees 2 (m - p) t
-    rest_there h = subst (λ (k : ℕ). Subtrees 2 (m - k) t) (sym p-is) h.3
-
-    pub three_there : Subtrees 3 m t → ThreeThere
-    three_there h =
-        let g = rest_there h in
-        record {
-          some = h.0;
-          first_inside = omega (arith, h.2, p-is);
-          second_there = g.0;
-          second_inside = omega (arith, g.2, q-is);
-          third_there = subst (λ (k : ℕ). 1 ≤ m - p - k) (sym q-is) g.3.0;
-        }
-
-    pub and_or_typed : {a b c : Correctness} {r : Typed} → a ≡ held_type (node_at t (m - 1)) → b ≡ held_type (node_at t (m - p - q - 1)) → c ≡ held_type (node_at t (m - p - 1)) → r ≡ and_or a b c → r ≡ and_or_held t m
-    and_or_typed {a} {b} {c} x y z e =
-        let u : m - p ≡ under t m = ap (λ (k : ℕ). m - k) p-is in
-        e
-        ∙ ap (λ (d : Correctness). and_or d b c) x
-        ∙ ap (λ (d : Correctness). and_or (top_type t m) d c) (y ∙ ap (λ (k : ℕ). top_type t (m - p - k)) q-is ∙ ap (λ (k : ℕ). top_type t (under t k)) u)
-        ∙ ap (λ (d : Correctness). and_or (top_type t m) (top_type t (under t (under t m))) d) (z ∙ ap (top_type t) u)
 
 -- The loop over a thresh's children: before child i
 
@@ -210,12 +111,6 @@ module _ (t : List ℕ) (m n : ℕ) where
 -- The type of a node, by its shape
 
 module _ (s : Shape) (n : Node) (t : List ℕ) (m : ℕ) where
-  pub counted_children : s.counts_children ≡ true → Children s n t m → Subtrees n.count m t
-  counted_children e h = subst (λ (b : Bool). Subtrees (pick b n.count s.children) m t) e h
-
-  pub fixed_children : (k : ℕ) → s.counts_children ≡ false → s.children ≡ k → Children s n t m → Subtrees k m t
-  fixed_children k e c h = subst (λ (j : ℕ). Subtrees j m t) c (subst (λ (b : Bool). Subtrees (pick b n.count s.children) m t) e h)
-
   abbrev by_children : ℕ → Typed
   by_children k =
       pick (eqb k 1) (cast_of n.kind (top_type t m))
@@ -248,22 +143,6 @@ module _ (s : Shape) (n : Node) (t : List ℕ) (m : ℕ) where
       ∙ second (eqb s.children 3) (and_or_held t m) (Is (leaf_type (leaf_of n.kind))) refl (ne_eqb s.children 3 d)
       ∙ second (eqb s.children 2) (pair_held t m n.kind) _ refl (ne_eqb s.children 2 b)
       ∙ second (eqb s.children 1) (cast_of n.kind (top_type t m)) _ refl (ne_eqb s.children 1 a))
-
--- 14
-
-module _ (n : Node) (typed : Typed) {answer : Typed} (a : answer ≡ typed) where
-  pub rule_refuses : {e : ErrorKind} {r : ℕ} {v : Verdict} → answer ≡ Not e → r ≡ reason answer → v ≡ verdict 14 r → v ≡ judged_held n typed
-  rule_refuses {e} p q h = h ∙ ap (verdict 14) (q ∙ ap reason p) ∙ sym (ap (judged_held n) (sym a ∙ p))
-
-  module _ {c : Correctness} (p : answer ≡ Is c) {b : Bool} (held : b ≡ holds_type n c) where
-    type_compared : pick (holds_type n c) (verdict 0 0) (verdict 14 13) ≡ judged_held n typed
-    type_compared = sym (ap (judged_held n) (sym a ∙ p))
-
-    pub type_differs : {v : Verdict} → not b ≡ true → v ≡ verdict 14 13 → v ≡ judged_held n typed
-    type_differs h e = e ∙ second (holds_type n c) (verdict 0 0) (verdict 14 13) held (not-true b h) ∙ type_compared
-
-    pub type_same : {v : Verdict} → not b ≡ false → v ≡ verdict 0 0 → v ≡ judged_held n typed
-    type_same h e = e ∙ first (holds_type n c) (verdict 0 0) (verdict 14 13) held (not-false b h) ∙ type_compared
 
 -- One root
 

@@ -17,8 +17,7 @@ use Rattle.encoding.specs.Form.{Shape, shape_of, unused_are_zero, in_range, chil
 use Rattle.encoding.specs.Values.{value_refusal}
 use Rattle.encoding.specs.Checks.{holds_type}
 use Rattle.encoding.specs.Encoding.{node_count}
-use Rattle.closing.specs.declared.Verdict.{Verdict}
-use Rattle.closing.specs.Verdicts.{verdict}
+use Rattle.closing.specs.Verdicts.{Verdict, verdict}
 
 -- the first m nodes are those of these trees, the newest first: each root holds its tree's size and type
 abbrev pub RootsAt : Bool → List ℕ → ℕ → Trees → Type 0

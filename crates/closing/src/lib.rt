@@ -4,32 +4,65 @@
 // passes names at most 999 keys.
 #![tactic(auto)]
 
-ghost use Rattle.std.specs.Prelude.{◌≡◌, ◌+◌, ◌*◌, ◌≤◌, ◌<◌, eqb, length};
-ghost use Rattle.base_input.specs.Numbers.{bool_number};
+ghost use Rattle.std.specs.Prelude.{◌≡◌, ◌+◌, ◌*◌, ◌≤◌, ◌<◌, length};
 ghost use Rattle.correctness.specs.Rules.{threshold};
 ghost use Rattle.judge.specs.NodeTable.{node_at, node_of, Subtrees};
 ghost use Rattle.encoding.specs.Checks.{holds_type};
 ghost use Rattle.encoding.specs.Encoding.{tree_in};
 ghost use Rattle.node_shape.specs.Shapes.{shape_held};
-ghost use Rattle.closing.specs.Verdicts.{verdict, verdict_on};
+ghost use Rattle.closing.specs.declared.Refusal.TheVariants.{Value};
+ghost use Rattle.closing.specs.Verdicts.{refusal_verdict, verdict_told, verdict_on};
 ghost use Rattle.closing.specs.Held.{Rooted, fits_from, types_held, pair_held, and_or_held, type_held, Children, formed_held, judged_held, check_held, root_held};
 
-use base_input::both;
 use correctness::{Correctness, Typed};
 use judge::{Node, cast, combine, leaf_of, reason, size_at, type_at};
-use node_shape::{Shape, Told, child_count, in_range, shape_of, unused_are_zero, value_refusal};
+use node_shape::{
+    Shape, ValueError, child_count, in_range, shape_of, unused_are_zero, value_refusal,
+};
 
-// The refusal's number and reason, both 0 if the table holds one tree.
+// Why a table is refused.
 #[derive(Clone, Copy)]
-pub struct Verdict {
-    pub number: u32,
-    pub reason: u32,
+pub enum Refusal {
+    // 21.
+    NotOneTree,
+    // 11, 12 or 13.
+    Value(ValueError),
+    // 14, with the rule's reason, or 13 where the stored type isn't the one worked out.
+    WrongType(u32),
+    // 19.
+    TopNotB,
 }
 
-fn says(number: u32, reason: u32) -> Verdict
-    ensures { result ≡ verdict number reason }
-{
-    Verdict { number, reason }
+impl Refusal {
+    // 01's number.
+    pub fn number(self) -> u32
+        ensures { result ≡ (refusal_verdict self).number }
+    {
+        match self {
+            Refusal::NotOneTree => 21,
+            Refusal::Value(error) => error.number(),
+            Refusal::WrongType(_) => 14,
+            Refusal::TopNotB => 19,
+        }
+    }
+
+    // The reason of 14; 0 with any other number.
+    pub fn reason(self) -> u32
+        ensures { result ≡ (refusal_verdict self).reason }
+    {
+        match self {
+            Refusal::WrongType(reason) => reason,
+            _ => 0,
+        }
+    }
+}
+
+impl From<ValueError> for Refusal {
+    ghost from_gives = { λ e r. r ≡ Value e };
+
+    fn from(value: ValueError) -> Refusal {
+        Refusal::Value(value)
+    }
 }
 
 // Node number i.
@@ -58,14 +91,11 @@ fn right_size(nodes: &[u32], m: usize, children: u32, size: u32) -> bool
     ensures { result ≡ fits_from nodes.now children m m size }
 {
     let mut at = m;
-    let mut i = 0;
-    while i < children {
+    for _ in 0..children {
         if at < 1 {
             return false;
         }
-        let child_size = size_at(nodes, at - 1);
-        at -= child_size as usize;
-        i += 1;
+        at -= size_at(nodes, at - 1) as usize;
     }
     (size as usize) == m - at + 1
 }
@@ -76,13 +106,9 @@ fn well_formed(s: Shape, n: Node, nodes: &[u32], m: usize, keys: &[u32], materia
     requires rooted { Rooted nodes.now m }
     ensures { result ≡ formed_held material keys.now (shape_held s) (node_of n) nodes.now m }
 {
-    if !unused_are_zero(s, n) {
-        return false;
-    }
-    if !in_range(s, n, keys, material) {
-        return false;
-    }
-    right_size(nodes, m, child_count(s, n), n.size)
+    unused_are_zero(s, n)
+        && in_range(s, n, keys, material)
+        && right_size(nodes, m, child_count(s, n), n.size)
 }
 
 // The type of a combination of the two newest trees.
@@ -121,17 +147,14 @@ fn thresh_type(nodes: &[u32], m: usize, n: u32) -> Typed
 {
     let mut earlier = Correctness::no_children();
     let mut at = m;
-    let mut i = 0;
-    while i < n {
+    for i in 0..n {
         let child = at - 1;
         let answer = Correctness::threshold_child(i, earlier, type_at(nodes, child));
         let Typed::Is(next) = answer else {
             return answer;
         };
-        let child_size = size_at(nodes, child);
         earlier = next;
-        at -= child_size as usize;
-        i += 1;
+        at -= size_at(nodes, child) as usize;
     }
     Typed::Is(earlier)
 }
@@ -145,8 +168,7 @@ fn type_of_node(s: Shape, n: Node, nodes: &[u32], m: usize) -> Typed
     if s.counts {
         return thresh_type(nodes, m, n.count);
     }
-    let children = s.children;
-    match children {
+    match s.children {
         1 => cast(n.kind, type_at(nodes, m - 1)),
         2 => pair_type(nodes, m, n.kind),
         3 => and_or_type(nodes, m),
@@ -154,102 +176,80 @@ fn type_of_node(s: Shape, n: Node, nodes: &[u32], m: usize) -> Typed
     }
 }
 
-// Whether a stored number says so.
-fn stores(number: u32, yes: bool) -> bool
-    ensures { result ≡ eqb number (bool_number yes) }
-{
-    if yes {
-        return number == 1;
-    }
-    number == 0
-}
-
 // Whether the node holds this type.
 fn holds_type(n: Node, ty: Correctness) -> bool
     ensures { result ≡ holds_type (node_of n) ty }
 {
-    let base = ty.base;
-    let input = ty.input;
-    let d = stores(n.d, ty.dissatisfiable);
-    let u = stores(n.u, ty.unit);
-    both(
-        n.base == base.number(),
-        both(n.input == input.number(), both(d, u)),
-    )
+    n.base == ty.base.number()
+        && n.input == ty.input.number()
+        && n.d == u32::from(ty.dissatisfiable)
+        && n.u == u32::from(ty.unit)
 }
 
 // 14: the rule's reason, or 13 if the stored type isn't the one worked out.
-fn judged(s: Shape, n: Node, nodes: &[u32], m: usize) -> Verdict
+fn judged(s: Shape, n: Node, nodes: &[u32], m: usize) -> Result<(), Refusal>
     requires m_in_bounds { 9 * m ≤ length nodes.now }
     requires children { Children (shape_held s) (node_of n) nodes.now m }
-    ensures { result ≡ judged_held (node_of n) (type_held (shape_held s) (node_of n) nodes.now m) }
+    ensures { verdict_told result ≡ judged_held (node_of n) (type_held (shape_held s) (node_of n) nodes.now m) }
 {
     let answer = type_of_node(s, n, nodes, m);
     let Typed::Is(ty) = answer else {
-        return says(14, reason(answer));
+        return Err(Refusal::WrongType(reason(answer)));
     };
     if !holds_type(n, ty) {
-        return says(14, 13);
+        return Err(Refusal::WrongType(13));
     }
-    says(0, 0)
+    Ok(())
 }
 
 // Node number m, over the trees of the nodes before it.
-fn check_node(segwit: bool, nodes: &[u32], keys: &[u32], material: &[u8], m: usize) -> Verdict
+fn check_node(
+    segwit: bool,
+    nodes: &[u32],
+    keys: &[u32],
+    material: &[u8],
+    m: usize,
+) -> Result<(), Refusal>
     requires m_in_bounds { 9 * m + 8 < length nodes.now }
     requires rooted { Rooted nodes.now m }
-    ensures { result ≡ check_held segwit material.now keys.now nodes.now m }
+    ensures { verdict_told result ≡ check_held segwit material.now keys.now nodes.now m }
 {
     let n = node_at(nodes, m);
-    let told = shape_of(segwit, n.kind);
-    let Told::Is(s) = told else {
-        return says(21, 0);
-    };
+    let s = shape_of(segwit, n.kind).ok_or(Refusal::NotOneTree)?;
     if !well_formed(s, n, nodes, m, keys, material.len()) {
-        return says(21, 0);
+        return Err(Refusal::NotOneTree);
     }
-    let refusal = value_refusal(segwit, n, keys, material);
-    if refusal != 0 {
-        return says(refusal, 0);
-    }
+    value_refusal(segwit, n, keys, material)?;
     judged(s, n, nodes, m)
 }
 
 // One root, with no number behind it, else 21; then 19 unless its base is B.
-fn check_root(nodes: &[u32]) -> Verdict
-    ensures { result ≡ root_held nodes.now }
+fn check_root(nodes: &[u32]) -> Result<(), Refusal>
+    ensures { verdict_told result ≡ root_held nodes.now }
 {
     let count = nodes.len() / 9;
     if count < 1 {
-        return says(21, 0);
+        return Err(Refusal::NotOneTree);
     }
     let size = size_at(nodes, count - 1);
     if (size as usize) != count {
-        return says(21, 0);
+        return Err(Refusal::NotOneTree);
     }
     if nodes.len() % 9 != 0 {
-        return says(21, 0);
+        return Err(Refusal::NotOneTree);
     }
-    let ty = type_at(nodes, count - 1);
-    let base = ty.base;
-    if !base.is_b() {
-        return says(19, 0);
+    if !type_at(nodes, count - 1).base.is_b() {
+        return Err(Refusal::TopNotB);
     }
-    says(0, 0)
+    Ok(())
 }
 
 // Whether a node table holds one tree, with all that it says of itself true.
-pub fn check_tree(segwit: bool, nodes: &[u32], keys: &[u32], material: &[u8]) -> Verdict
-    ensures { result ≡ verdict_on (tree_in segwit nodes.now keys.now material.now) }
+pub fn check_tree(segwit: bool, nodes: &[u32], keys: &[u32], material: &[u8]) -> Result<(), Refusal>
+    ensures { verdict_told result ≡ verdict_on (tree_in segwit nodes.now keys.now material.now) }
 {
-    let count = nodes.len() / 9;
-    let mut i = 0;
-    while i < count {
-        let said = check_node(segwit, nodes, keys, material, i);
-        if said.number != 0 {
-            return said;
-        }
-        i += 1;
+    for i in 0..nodes.len() / 9 {
+        check_node(segwit, nodes, keys, material, i)?;
     }
     check_root(nodes)
 }

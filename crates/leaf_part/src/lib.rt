@@ -2,29 +2,20 @@
 #![tactic(auto)]
 
 ghost use Rattle.std.specs.Prelude.{◌≡◌};
-ghost use Rattle.leaf_part.specs.LeafPart.{key_bytes, leaf_bytes, leaf_part};
+ghost use Rattle.leaf_part.specs.LeafPart.{leaf_bytes, leaf_part};
 
-// How many bytes a pk_k's key has: 33 in segwit, 32 in tapscript.
-fn key_bytes(kind: u32) -> usize
-    ensures { result ≡ key_bytes kind }
-{
-    if kind == 0 {
-        return 33;
-    }
-    32
-}
+use node_shape::key_length;
+use row::kind;
 
 // How many bytes of a key or hash a node of this kind has; 0 where it has none.
 fn leaf_bytes(kind: u32, node: u32) -> usize
     ensures { result ≡ leaf_bytes kind node }
 {
     match node {
-        3 => key_bytes(kind),
-        5 => 20,
-        8 => 32,
-        9 => 32,
-        10 => 20,
-        11 => 20,
+        kind::PK_K => key_length(kind == 0) as usize,
+        kind::RAW_PK_H => 20,
+        kind::SHA256 | kind::HASH256 => 32,
+        kind::RIPEMD160 | kind::HASH160 => 20,
         _ => 0,
     }
 }
@@ -37,13 +28,8 @@ pub fn leaf_part(kind: u32, script: &[u8], node: u32, place: u32) -> &[u8]
     if 1 < kind {
         return &script[..0];
     }
-    let bytes = leaf_bytes(kind, node);
     let start = place as usize;
-    if script.len() < start {
-        return &script[..0];
-    }
-    if script.len() - start < bytes {
-        return &script[..0];
-    }
-    &script[start..start + bytes]
+    script
+        .get(start..start + leaf_bytes(kind, node))
+        .unwrap_or(&script[..0])
 }

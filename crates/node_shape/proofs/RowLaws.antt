@@ -3,8 +3,10 @@ use mathlib.Core.Path.{◌≡◌, refl, sym, ap, ◌∙◌, subst}
 use mathlib.Core.Bool.{Bool, true, false, ◌&&◌, ◌||◌, true≢false}
 use mathlib.Core.List.{List, [], ◌∷◌}
 use mathlib.Core.Option.{Option, none, some}
-use Prim.Native.Nat.{ℕ, ◌≤◌}
+use Prim.Native.Nat.{ℕ, zero, suc, ◌+◌, ◌≤◌, ◌<◌}
+use native.Mathlib.Omega.{arith}
 use borrow.Author.Tests.{eqb-true, ne_eqb, le-leb, leb-true}
+use Rattle.std.proofs.lemmas.Bool.{eqb-false}
 use lib.Dec.{eqb, leb}
 use Rattle.tables.specs.Choose.{pick, look}
 use Rattle.tables.proofs.BoolLaws.{left_true, right_true}
@@ -46,6 +48,27 @@ tested test kind rows other = of_terminal (λ k t. test k t ≡ true) kind (rows
 -- at the key of an arm
 pub at_kind : {A : Type 0} (f : Terminal → A) {x : A} {kind : ℕ} (key : ℕ) → kind ≡ key → x ≡ f (terminal_of key) → x ≡ f (terminal_of kind)
 at_kind f key e h = h ∙ ap (λ (k : ℕ). f (terminal_of k)) (sym e)
+
+-- at the key of an arm that takes all from `first` on, so many of them
+abbrev pub AllFrom : (ℕ → Type 0) → ℕ → ℕ → Type 0
+AllFrom P zero first = Unit {0}
+AllFrom P (suc n) first = P first × AllFrom P n (suc first)
+
+pub one_of : (P : ℕ → Type 0) (n first kind : ℕ) → AllFrom P n first → first ≤ kind → kind < first + n → P kind
+one_of P zero first kind a l h = absurd (omega arith)
+one_of P (suc n) first kind a l h = by (eqb kind first) refl (λ l' h'. one_of P n (suc first) kind a.1 l' h')
+  where
+    by : (b : Bool) → eqb kind first ≡ b → (suc first ≤ kind → kind < suc first + n → P kind) → P kind
+    by true e rest = subst P (sym (eqb-true kind first e)) a.0
+    by false e rest = let other : kind ≡ first → ⊥ = eqb-false kind first e in rest (omega arith) (omega arith)
+
+-- no kind is above 28
+rows_below29 : (rows : List (ℕ × Terminal)) → all_rows (λ k t. leb k 28) rows ≡ true → AllRows (λ k t. 29 ≤ k → t ≡ noTerminal) rows
+rows_below29 [] e = tt
+rows_below29 (row ∷ rows) e = (λ h. absurd (omega (arith, h, leb-true row.0 28 (left_true (leb row.0 28) _ e))), rows_below29 rows (right_true (leb row.0 28) _ e))
+
+pub no_kind_above : (kind : ℕ) → 29 ≤ kind → terminal_of kind ≡ noTerminal
+no_kind_above kind h = of_terminal (λ k t. 29 ≤ k → t ≡ noTerminal) kind (rows_below29 terminals refl) (λ h. refl) h
 
 -- multi and multi_a are the last kinds, and both name keys
 

@@ -1,6 +1,6 @@
 -- For the proof: what the code's shape of a kind stands for, and the refusals of a node's values kind by kind (document 01, "When the desk says no", numbers 11, 12 and 13).
-use Rattle.std.specs.Prelude.{Bool, ◌&&◌, List, ℕ, leb, take, drop}
-use Rattle.std.proofs.Math.Option.{Option, none, some}
+use Rattle.std.specs.Prelude.{Bool, ◌&&◌, List, ℕ, leb, take, drop, Option, Some, None, Result, Ok, Err}
+use Rattle.std.proofs.Math.Option as math
 use Rattle.lex.specs.Token.{data_at}
 use Rattle.tables.specs.Choose.{pick}
 use Rattle.standard.specs.Tree.{Key, key}
@@ -8,15 +8,25 @@ use Rattle.standard.specs.Allowed.{within, key_form, all_multi_keys, locktime, m
 use Rattle.standard.specs.Table.{key_code, key_length, keys_at}
 use Rattle.encoding.specs.Form.{Shape, shape}
 use Rattle.node_shape.specs.declared.Shape as code
-use Rattle.node_shape.specs.declared.Told.{Told}
-use Rattle.node_shape.specs.declared.Told.TheVariants.{Unknown, Is}
+use Rattle.node_shape.specs.declared.ValueError.{ValueError}
+use Rattle.node_shape.specs.declared.ValueError.TheVariants.{KeyForm, Locktime, Threshold}
 
 abbrev pub shape_held : code.Shape → Shape
 shape_held s = shape s.number s.counts s.bytes s.key s.children
 
-abbrev pub shape_told : Told → Option Shape
-shape_told Unknown = none
-shape_told (Is s) = some (shape_held s)
+abbrev pub shape_told : Option code.Shape → math.Option Shape
+shape_told None = math.none
+shape_told (Some s) = math.some (shape_held s)
+
+-- the number of each refusal, and 0 where there is none
+abbrev pub number_of : ValueError → ℕ
+number_of KeyForm = 11
+number_of Locktime = 12
+number_of Threshold = 13
+
+abbrev pub refusal_told : {A : Type 0} → Result A ValueError → ℕ
+refusal_told (Ok a) = 0
+refusal_told (Err e) = number_of e
 
 -- the keys that a multi names, from entry `place` of the key table on
 abbrev pub multi_keys_at : List ℕ → List ℕ → ℕ → ℕ → List Key

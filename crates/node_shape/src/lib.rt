@@ -2,19 +2,18 @@
 // places and key offsets are in range (21), and that its values are allowed (11, 12, 13).
 #![tactic(auto)]
 
-ghost use Rattle.std.specs.Prelude.{◌≡◌, true, false, ◌+◌, ◌≤◌, length, take, drop};
-ghost use Rattle.std.proofs.Math.Option.{some};
-ghost use Rattle.tables.specs.Choose.{pick};
+ghost use Rattle.std.specs.Prelude.{◌≡◌, true, false, ◌+◌, ◌≤◌, length};
 ghost use Rattle.standard.specs.Allowed as allowed;
-ghost use Rattle.standard.specs.Table.{terminal_of, key_length, key_code};
+ghost use Rattle.standard.specs.Table.{terminal_of, key_length, key_code, keys_at};
 ghost use Rattle.judge.specs.NodeTable.{node_of};
+ghost use Rattle.locks.specs.Leaves.{key_at};
 ghost use Rattle.encoding.specs.Form.{shape, shape_of, unused_are_zero, all_within, in_range, child_count};
 ghost use Rattle.encoding.specs.Values.{value_refusal};
-ghost use Rattle.node_shape.specs.Shapes.{shape_held, shape_told, multi_keys_at, key_refusal, locktime_refusal, thresh_refusal, multi_refusal, multi_a_refusal};
+ghost use Rattle.node_shape.specs.Shapes.{shape_held, shape_told, number_of, refusal_told, key_refusal, locktime_refusal, thresh_refusal, multi_refusal, multi_a_refusal};
 
-use base_input::{both, either};
 use judge::Node;
 use locks::key_form;
+use row::kind;
 use row::token::{BYTES32, BYTES33};
 
 // What a node of a kind holds.
@@ -32,105 +31,99 @@ pub struct Shape {
     pub children: u32,
 }
 
-// The shape of a kind, if the number is a kind's.
+// Why a node's values are refused: its key's form (11), its locktime (12), its threshold or how many there are (13).
 #[derive(Clone, Copy)]
-pub enum Told {
-    Unknown,
-    Is(Shape),
+pub enum ValueError {
+    KeyForm,
+    Locktime,
+    Threshold,
+}
+
+impl ValueError {
+    // 01's number.
+    pub fn number(self) -> u32
+        ensures { result ≡ number_of self }
+    {
+        match self {
+            ValueError::KeyForm => 11,
+            ValueError::Locktime => 12,
+            ValueError::Threshold => 13,
+        }
+    }
 }
 
 // A kind that holds nothing but so many children.
-fn parent(children: u32) -> Told
-    ensures { shape_told result ≡ some (shape false false 0 0 children) }
+fn parent(children: u32) -> Shape
+    ensures { shape_held result ≡ shape false false 0 0 children }
 {
-    Told::Is(Shape {
+    Shape {
         number: false,
         counts: false,
         bytes: 0,
         key: 0,
         children,
-    })
+    }
 }
 
 // A leaf with a key or hash.
-fn with_data(bytes: u32) -> Told
-    ensures { shape_told result ≡ some (shape false false bytes 0 0) }
+fn with_data(bytes: u32) -> Shape
+    ensures { shape_held result ≡ shape false false bytes 0 0 }
 {
-    Told::Is(Shape {
+    Shape {
         number: false,
         counts: false,
         bytes,
         key: 0,
         children: 0,
-    })
+    }
 }
 
 // A kind with a locktime or k.
-fn with_number(counts: bool, key: u32) -> Told
-    ensures { shape_told result ≡ some (shape true counts 0 key 0) }
+fn with_number(counts: bool, key: u32) -> Shape
+    ensures { shape_held result ≡ shape true counts 0 key 0 }
 {
-    Told::Is(Shape {
+    Shape {
         number: true,
         counts,
         bytes: 0,
         key,
         children: 0,
-    })
+    }
 }
 
 // How many bytes a pk_k's key has.
-fn key_length(segwit: bool) -> u32
+pub fn key_length(segwit: bool) -> u32
     ensures { result ≡ key_length segwit }
 {
-    if segwit {
-        return 33;
-    }
-    32
+    if segwit { 33 } else { 32 }
 }
 
 // The push that such a key is.
 fn key_code(segwit: bool) -> u32
     ensures { result ≡ key_code segwit }
 {
-    if segwit {
-        return BYTES33;
-    }
-    BYTES32
+    if segwit { BYTES33 } else { BYTES32 }
 }
 
 // What a node of this kind holds; 0, 4 and all above 28 are no kinds.
-pub fn shape_of(segwit: bool, kind: u32) -> Told
+pub fn shape_of(segwit: bool, kind: u32) -> Option<Shape>
     ensures { shape_told result ≡ shape_of segwit (terminal_of kind) }
 {
     match kind {
-        1 => parent(0),
-        2 => parent(0),
-        3 => with_data(key_length(segwit)),
-        5 => with_data(20),
-        6 => with_number(false, 0),
-        7 => with_number(false, 0),
-        8 => with_data(32),
-        9 => with_data(32),
-        10 => with_data(20),
-        11 => with_data(20),
-        12 => parent(1),
-        13 => parent(1),
-        14 => parent(1),
-        15 => parent(1),
-        16 => parent(1),
-        17 => parent(1),
-        18 => parent(1),
-        19 => parent(2),
-        20 => parent(2),
-        21 => parent(3),
-        22 => parent(2),
-        23 => parent(2),
-        24 => parent(2),
-        25 => parent(2),
-        26 => with_number(true, 0),
-        27 => with_number(false, 33),
-        28 => with_number(false, 32),
-        _ => Told::Unknown,
+        kind::TRUE | kind::FALSE => Some(parent(0)),
+        kind::PK_K => Some(with_data(key_length(segwit))),
+        kind::RAW_PK_H => Some(with_data(20)),
+        kind::AFTER | kind::OLDER => Some(with_number(false, 0)),
+        kind::SHA256 | kind::HASH256 => Some(with_data(32)),
+        kind::RIPEMD160 | kind::HASH160 => Some(with_data(20)),
+        kind::ALT..=kind::ZERO_NOT_EQUAL => Some(parent(1)),
+        kind::AND_V | kind::AND_B => Some(parent(2)),
+        kind::AND_OR => Some(parent(3)),
+        kind::OR_B..=kind::OR_I => Some(parent(2)),
+        kind::THRESH => Some(with_number(true, 0)),
+        kind::MULTI => Some(with_number(false, 33)),
+        kind::MULTI_A => Some(with_number(false, 32)),
+        _ => None,
     }
 }
 
@@ -138,20 +131,17 @@ pub fn shape_of(segwit: bool, kind: u32) -> Told
 pub fn child_count(s: Shape, n: Node) -> u32
     ensures { result ≡ child_count (shape_held s) (node_of n) }
 {
-    if s.counts {
-        return n.count;
-    }
-    s.children
+    if s.counts { n.count } else { s.children }
 }
 
 // "Unused fields are 0".
 pub fn unused_are_zero(s: Shape, n: Node) -> bool
     ensures { result ≡ unused_are_zero (shape_held s) (node_of n) }
 {
-    let number_fits = either(s.number, n.number == 0);
-    let count_fits = either(either(s.counts, 1 <= s.key), n.count == 0);
-    let place_fits = either(either(1 <= s.bytes, 1 <= s.key), n.place == 0);
-    both(number_fits, both(count_fits, place_fits))
+    let number_fits = s.number || n.number == 0;
+    let count_fits = s.counts || 1 <= s.key || n.count == 0;
+    let place_fits = 1 <= s.bytes || 1 <= s.key || n.place == 0;
+    number_fits && count_fits && place_fits
 }
 
 // Where the bytes at an offset end.
@@ -162,18 +152,12 @@ fn end_of(offset: u32, bytes: u32) -> usize
 }
 
 // Whether so many bytes from each offset on lie within the material.
-fn all_within(bytes: u32, material: usize, keys: &[u32], place: usize, count: usize) -> bool
-    requires { place + count ≤ length keys.now }
-    ensures { result ≡ all_within bytes material (take count (drop place keys.now)) }
+fn all_within(bytes: u32, material: usize, offsets: &[u32]) -> bool
+    ensures { result ≡ all_within bytes material offsets.now }
 {
-    let mut i = 0;
-    while i < count {
-        if material < end_of(keys[place + i], bytes) {
-            return false;
-        }
-        i += 1;
-    }
-    true
+    offsets
+        .iter()
+        .all(|offset| end_of(*offset, bytes) <= material)
 }
 
 // Whether the data at its place, or the keys that it names, are in range; `material` is how many bytes there are.
@@ -183,115 +167,104 @@ pub fn in_range(s: Shape, n: Node, keys: &[u32], material: usize) -> bool
     if s.key < 1 {
         return end_of(n.place, s.bytes) <= material;
     }
-    if keys.len() < end_of(n.place, n.count) {
+    let Some(named) = keys.get(n.place as usize..end_of(n.place, n.count)) else {
         return false;
-    }
-    all_within(s.key, material, keys, n.place as usize, n.count as usize)
+    };
+    all_within(s.key, material, named)
 }
 
-// 11 unless a pk_k's key has the key form.
-fn key_refusal(segwit: bool, material: &[u8], place: u32) -> u32
-    ensures { result ≡ key_refusal segwit material.now place }
+// A pk_k's key has the key form.
+fn key_refusal(segwit: bool, material: &[u8], place: u32) -> Result<(), ValueError>
+    ensures { refusal_told result ≡ key_refusal segwit material.now place }
 {
-    if key_form(segwit, material, key_code(segwit), place) {
-        return 0;
+    if !key_form(segwit, material, key_code(segwit), place) {
+        return Err(ValueError::KeyForm);
     }
-    11
+    Ok(())
 }
 
-// 12 unless it is a locktime.
-fn locktime_refusal(number: u32) -> u32
-    ensures { result ≡ locktime_refusal number }
+// A locktime is 1 to 2,147,483,647.
+fn locktime_refusal(number: u32) -> Result<(), ValueError>
+    ensures { refusal_told result ≡ locktime_refusal number }
 {
-    if both(1 <= number, number <= 2147483647) {
-        return 0;
+    if number < 1 || 2147483647 < number {
+        return Err(ValueError::Locktime);
     }
-    12
+    Ok(())
 }
 
-// 13 unless 1 ≤ k ≤ n.
-fn thresh_refusal(k: u32, n: u32) -> u32
-    ensures { result ≡ thresh_refusal k n }
+// 1 ≤ k ≤ n.
+fn thresh_refusal(k: u32, n: u32) -> Result<(), ValueError>
+    ensures { refusal_told result ≡ thresh_refusal k n }
 {
-    if both(1 <= k, k <= n) {
-        return 0;
+    if k < 1 || n < k {
+        return Err(ValueError::Threshold);
     }
-    13
+    Ok(())
 }
 
-// Whether every key of a multi has the key form; in tapscript none has.
-fn multi_keys_formed(
+// Whether the bytes at an offset have a multi's key form; in tapscript none have.
+fn multi_key_formed(segwit: bool, material: &[u8], offset: u32) -> bool
+    ensures { result ≡ allowed.multi_key segwit (key_at material.now BYTES33 offset) }
+{
+    segwit && key_form(segwit, material, BYTES33, offset)
+}
+
+// Whether every key of a multi has the key form.
+fn multi_keys_formed(segwit: bool, material: &[u8], offsets: &[u32]) -> bool
+    ensures { result ≡ allowed.all_multi_keys segwit (keys_at material.now offsets.now) }
+{
+    offsets
+        .iter()
+        .all(|offset| multi_key_formed(segwit, material, *offset))
+}
+
+// A multi's keys, then 1 ≤ n ≤ 20 and 1 ≤ k ≤ n.
+fn multi_refusal(
     segwit: bool,
     material: &[u8],
     keys: &[u32],
     place: usize,
-    count: usize,
-) -> bool
-    requires { place + count ≤ length keys.now }
-    ensures { result ≡ allowed.all_multi_keys segwit (multi_keys_at material.now keys.now place count) }
-{
-    let mut i = 0;
-    while i < count {
-        if !segwit {
-            return false;
-        }
-        if !key_form(segwit, material, BYTES33, keys[place + i]) {
-            return false;
-        }
-        i += 1;
-    }
-    true
-}
-
-// The number of the first test that is failed, 0 if none is.
-fn first_refusal(first: bool, number: u32, second: bool, other: u32) -> u32
-    ensures { result ≡ pick first (pick second 0 other) number }
-{
-    if !first {
-        return number;
-    }
-    if !second {
-        return other;
-    }
-    0
-}
-
-// A multi's keys, then 1 ≤ n ≤ 20 and 1 ≤ k ≤ n.
-fn multi_refusal(segwit: bool, material: &[u8], keys: &[u32], place: usize, k: u32, n: u32) -> u32
+    k: u32,
+    n: u32,
+) -> Result<(), ValueError>
     requires { place + n ≤ length keys.now }
-    ensures { result ≡ multi_refusal segwit material.now keys.now place k n }
+    ensures { refusal_told result ≡ multi_refusal segwit material.now keys.now place k n }
 {
-    let formed = multi_keys_formed(segwit, material, keys, place, n as usize);
-    let counted = both(both(1 <= n, n <= 20), both(1 <= k, k <= n));
-    first_refusal(formed, 11, counted, 13)
+    let formed = multi_keys_formed(segwit, material, &keys[place..place + n as usize]);
+    if !formed {
+        return Err(ValueError::KeyForm);
+    }
+    if n < 1 || 20 < n {
+        return Err(ValueError::Threshold);
+    }
+    thresh_refusal(k, n)
 }
 
 // A multi_a's keys, of which segwit allows none; then 1 ≤ k ≤ 999 and k ≤ n ≤ 999.
-fn multi_a_refusal(segwit: bool, k: u32, n: u32) -> u32
-    ensures { result ≡ multi_a_refusal segwit k n }
+fn multi_a_refusal(segwit: bool, k: u32, n: u32) -> Result<(), ValueError>
+    ensures { refusal_told result ≡ multi_a_refusal segwit k n }
 {
-    if both(segwit, 1 <= n) {
-        return 11;
+    if segwit && 1 <= n {
+        return Err(ValueError::KeyForm);
     }
-    if both(both(1 <= k, k <= 999), both(k <= n, n <= 999)) {
-        return 0;
+    if k < 1 || 999 < k || n < k || 999 < n {
+        return Err(ValueError::Threshold);
     }
-    13
+    Ok(())
 }
 
-// The number of the refusal of a node's values, 0 if there is none.
-pub fn value_refusal(segwit: bool, n: Node, keys: &[u32], material: &[u8]) -> u32
+// Whether a node's values are allowed.
+pub fn value_refusal(segwit: bool, n: Node, keys: &[u32], material: &[u8]) -> Result<(), ValueError>
     requires { 27 ≤ n.kind → n.place + n.count ≤ length keys.now }
-    ensures { result ≡ value_refusal segwit material.now keys.now (node_of n) }
+    ensures { refusal_told result ≡ value_refusal segwit material.now keys.now (node_of n) }
 {
-    let kind = n.kind;
-    match kind {
-        3 => key_refusal(segwit, material, n.place),
-        6 => locktime_refusal(n.number),
-        7 => locktime_refusal(n.number),
-        26 => thresh_refusal(n.number, n.count),
-        27 => multi_refusal(segwit, material, keys, n.place as usize, n.number, n.count),
-        28 => multi_a_refusal(segwit, n.number, n.count),
-        _ => 0,
+    match n.kind {
+        kind::PK_K => key_refusal(segwit, material, n.place),
+        kind::AFTER | kind::OLDER => locktime_refusal(n.number),
+        kind::THRESH => thresh_refusal(n.number, n.count),
+        kind::MULTI => multi_refusal(segwit, material, keys, n.place as usize, n.number, n.count),
+        kind::MULTI_A => multi_a_refusal(segwit, n.number, n.count),
+        _ => Ok(()),
     }
 }

@@ -10,11 +10,10 @@ use lib.ListN.{length, get_or}
 use Rattle.tables.specs.Choose.{pick, look}
 use Rattle.tables.specs.Tables.{newest}
 use Rattle.spelling.specs.Spell.{push_bytes, digits, number_bytes}
-use Rattle.standard.specs.Tree.{verify}
-use Rattle.standard.specs.Table.{node_at, Terminal, noTerminal, terminals, terminal_of, key_length}
-use Rattle.encoding.proofs.LookLaws.{Rest, unknown_kind}
+use Rattle.standard.specs.Table.{node_at, Terminal, noTerminal, terminals, terminal_of}
+use Rattle.node_shape.proofs.RowLaws.{AllFrom, one_of, no_kind_above}
 use Rattle.script_length.specs.declared.Ending.TheVariants.{Plain}
-use Rattle.script_length.specs.Length.{ending_of, ends_fusible, wrapper_bytes, terminal_bytes, added_bytes, Counts}
+use Rattle.script_length.specs.Length.{ending_of, ends_fusible, terminal_bytes, added_bytes, Counts}
 
 -- A table of cases
 
@@ -123,18 +122,6 @@ module _ (n : ℕ) where
 
 -- What a function below counts
 
-pub with_fused : (b : Bool) → b ≡ true → Counts 0 (wrapper_bytes verify b)
-with_fused b e = (ap (λ (x : Bool). wrapper_bytes verify x) (sym e), omega arith)
-
-pub without_fused : (b : Bool) → b ≡ false → Counts 1 (wrapper_bytes verify b)
-without_fused b e = (ap (λ (x : Bool). wrapper_bytes verify x) (sym e), omega arith)
-
-pub segwit_key : (b : Bool) → b ≡ true → Counts 34 (1 + key_length b)
-segwit_key b e = (ap (λ (x : Bool). 1 + key_length x) (sym e), omega arith)
-
-pub tapscript_key : (b : Bool) → b ≡ false → Counts 33 (1 + key_length b)
-tapscript_key b e = (ap (λ (x : Bool). 1 + key_length x) (sym e), omega arith)
-
 pub lock_counts : (n : ℕ) {a : ℕ} → a ≡ length (number_bytes n) → Counts (a + 1) (length (number_bytes n) + 1)
 lock_counts n e = (ap (λ (x : ℕ). x + 1) e, omega (arith, e, at_most_five n))
 
@@ -164,6 +151,15 @@ module _ (segwit : Bool) (table : List ℕ) (i : ℕ) where
   pub fixed : (key : ℕ) {r : ℕ} → get_or table (9 * i) 0 ≡ key → r ≡ by_terminal (terminal_of key) → ltb r 274877906944 ≡ true → Own r
   fixed key {r} e h b = called key e (h, ltb-true r 274877906944 b)
 
-  pub unknown : Rest (get_or table (9 * i) 0) (Unit {0}) terminals → Own 0
+  -- an arm for several kinds
+  pub called_range : (n first : ℕ) {r : ℕ} → AllFrom (λ k. Counts r (by_terminal (terminal_of k))) n first → first ≤ get_or table (9 * i) 0 → get_or table (9 * i) 0 < first + n → Own r
   unfolding added_bytes
-  unknown h = (ap by_terminal (sym (unknown_kind (get_or table (9 * i) 0) h)), omega arith)
+  called_range n first {r} a l h = one_of (λ k. Counts r (by_terminal (terminal_of k))) n first (get_or table (9 * i) 0) a l h
+
+  pub fixed_range : (n first : ℕ) {r : ℕ} → AllFrom (λ k. r ≡ by_terminal (terminal_of k)) n first → ltb r 274877906944 ≡ true → first ≤ get_or table (9 * i) 0 → get_or table (9 * i) 0 < first + n → Own r
+  unfolding added_bytes
+  fixed_range n first {r} a b l h = (one_of (λ k. r ≡ by_terminal (terminal_of k)) n first (get_or table (9 * i) 0) a l h, ltb-true r 274877906944 b)
+
+  pub unknown : 29 ≤ get_or table (9 * i) 0 → Own 0
+  unfolding added_bytes
+  unknown h = (ap by_terminal (sym (no_kind_above (get_or table (9 * i) 0) h)), omega arith)

@@ -9,7 +9,6 @@ use lib.ListN.{get_or, drop}
 use Rattle.tables.specs.Tables.{newest}
 use Rattle.tables.proofs.NewestLaws.{newest_pop, newest_drop}
 use Rattle.standard.specs.Table.{Node, node_at, terminal_of}
-use Rattle.judge.specs.NodeTable.{size_at}
 use Rattle.script_length.specs.declared.Ending.{Ending}
 use Rattle.script_length.specs.declared.Ending.TheVariants.{Fusible, Plain, OfFirst, OfSecond}
 use Rattle.script_length.specs.Length.{ending_of, newest_size, ends_by, ends_from, ends_fusible}
@@ -17,15 +16,6 @@ use Rattle.script_length.specs.Length.{ending_of, newest_size, ends_by, ends_fro
 module _ (table : List ℕ) where
   abbrev first : ℕ → List Node
   first m = newest (node_at table) m
-
-  newest_size_lem : (m : ℕ) → 1 ≤ m → newest_size (first m) ≡ size_at table (m - 1)
-  newest_size_lem m h = ap newest_size (newest_pop (node_at table) m h)
-
-  pub left_under : (m size : ℕ) → 1 ≤ m → size ≡ size_at table (m - 1) → m - size ≡ m - newest_size (first m)
-  left_under m size h e = omega (arith, newest_size_lem m h, e)
-
-  pub none_under : (m size : ℕ) → 1 ≤ m → size ≡ size_at table (m - 1) → m < size → 0 ≡ m - newest_size (first m)
-  none_under m size h e l = omega (arith, newest_size_lem m h, e)
 
   -- where the walk is
   pub record Walking (m at : ℕ) : Type 0 where

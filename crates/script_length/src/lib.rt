@@ -7,10 +7,11 @@ ghost use Rattle.tables.specs.Tables.{newest};
 ghost use Rattle.spelling.specs.Spell.{number_bytes};
 ghost use Rattle.standard.specs.Tree as tree;
 ghost use Rattle.standard.specs.Table.{node_at, key_length, terminal_of};
-ghost use Rattle.judge.specs.NodeTable.{size_at};
 ghost use Rattle.script_length.specs.Length.{ending_of, newest_size, ends_fusible, wrapper_bytes, added_bytes, Counts, length_in};
 
+use judge::size_at;
 use lex::SCRIPT_LIMIT;
+use node_shape::key_length;
 use row::kind;
 
 // What the script of a node's tree ends in: an opcode that also has a verifying form, any other, or what its first or
@@ -28,26 +29,13 @@ fn ending_of(kind: u32) -> Ending
     ensures { result ≡ ending_of (terminal_of kind) }
 {
     match kind {
-        kind::SHA256 => Ending::Fusible,
-        kind::HASH256 => Ending::Fusible,
-        kind::RIPEMD160 => Ending::Fusible,
-        kind::HASH160 => Ending::Fusible,
+        kind::SHA256 | kind::HASH256 | kind::RIPEMD160 | kind::HASH160 => Ending::Fusible,
         kind::SWAP => Ending::OfFirst,
         kind::CHECK => Ending::Fusible,
         kind::AND_V => Ending::OfSecond,
-        kind::THRESH => Ending::Fusible,
-        kind::MULTI => Ending::Fusible,
-        kind::MULTI_A => Ending::Fusible,
+        kind::THRESH | kind::MULTI | kind::MULTI_A => Ending::Fusible,
         _ => Ending::Plain,
     }
-}
-
-// The size of the subtree whose root is node number i.
-fn size_at(nodes: &[u32], i: usize) -> u32
-    requires { 9 * i + 8 < length nodes.now }
-    ensures { result ≡ size_at nodes.now i }
-{
-    nodes[9 * i + 4]
 }
 
 // How many of the first m nodes are left under the newest tree.
@@ -58,11 +46,7 @@ fn under_newest(nodes: &[u32], m: usize) -> usize
     if m == 0 {
         return 0;
     }
-    let size = size_at(nodes, m - 1) as usize;
-    if m < size {
-        return 0;
-    }
-    m - size
+    m.saturating_sub(size_at(nodes, m - 1) as usize)
 }
 
 // Whether the script of the newest tree of the first m nodes ends in an opcode that has a verifying form.
@@ -73,8 +57,7 @@ fn ends_fusible(nodes: &[u32], m: usize) -> bool
     let mut at = m;
     while 0 < at {
         let under = at - 1;
-        let end = ending_of(nodes[9 * under]);
-        match end {
+        match ending_of(nodes[9 * under]) {
             Ending::Fusible => return true,
             Ending::Plain => return false,
             Ending::OfFirst => at = under,
@@ -88,29 +71,20 @@ fn ends_fusible(nodes: &[u32], m: usize) -> bool
 fn number_bytes(n: u32) -> usize
     ensures { result ≡ length (number_bytes n) }
 {
-    if n <= 16 {
-        return 1;
+    match n {
+        0..=16 => 1,
+        17..=0x7f => 2,
+        0x80..=0x7fff => 3,
+        0x8000..=0x7fffff => 4,
+        _ => 5,
     }
-    if n < 0x80 {
-        return 2;
-    }
-    if n < 0x8000 {
-        return 3;
-    }
-    if n < 0x800000 {
-        return 4;
-    }
-    5
 }
 
 // A key and the byte of its length.
 fn key_bytes(segwit: bool) -> usize
     ensures { Counts result (1 + key_length segwit) }
 {
-    if segwit {
-        return 34;
-    }
-    33
+    1 + key_length(segwit) as usize
 }
 
 // The VERIFY of a v: over the newest tree of the first m nodes.
@@ -118,10 +92,7 @@ fn verify_bytes(nodes: &[u32], m: usize) -> usize
     requires { 9 * m ≤ length nodes.now }
     ensures { Counts result (wrapper_bytes tree.verify (ends_fusible (newest (node_at nodes.now) m))) }
 {
-    if ends_fusible(nodes, m) {
-        return 0;
-    }
-    1
+    if ends_fusible(nodes, m) { 0 } else { 1 }
 }
 
 // A number and an opcode behind it.
@@ -160,19 +131,14 @@ fn own_bytes(segwit: bool, nodes: &[u32], i: usize) -> usize
     let number = nodes[9 * i + 1];
     let count = nodes[9 * i + 2];
     match nodes[9 * i] {
-        kind::TRUE => 1,
-        kind::FALSE => 1,
+        kind::TRUE | kind::FALSE => 1,
         kind::PK_K => key_bytes(segwit),
         kind::RAW_PK_H => 24,
-        kind::AFTER => lock_bytes(number),
-        kind::OLDER => lock_bytes(number),
-        kind::SHA256 => 39,
-        kind::HASH256 => 39,
-        kind::RIPEMD160 => 27,
-        kind::HASH160 => 27,
+        kind::AFTER | kind::OLDER => lock_bytes(number),
+        kind::SHA256 | kind::HASH256 => 39,
+        kind::RIPEMD160 | kind::HASH160 => 27,
         kind::ALT => 2,
-        kind::SWAP => 1,
-        kind::CHECK => 1,
+        kind::SWAP | kind::CHECK => 1,
         kind::DUP_IF => 3,
         kind::VERIFY => verify_bytes(nodes, i),
         kind::NON_ZERO => 4,
@@ -196,15 +162,12 @@ fn own_bytes(segwit: bool, nodes: &[u32], i: usize) -> usize
 pub fn script_length(segwit: bool, nodes: &[u32]) -> usize
     ensures { result ≡ length_in segwit nodes.now }
 {
-    let n = nodes.len() / 9;
     let mut total = 0;
-    let mut i = 0;
-    while i < n {
+    for i in 0..nodes.len() / 9 {
         total += own_bytes(segwit, nodes, i);
         if SCRIPT_LIMIT < total {
             return SCRIPT_LIMIT + 1;
         }
-        i += 1;
     }
     total
 }

@@ -1,10 +1,6 @@
 -- `closing::check_tree` meets its contract. The loop over the nodes, of TableLaws.
-use Prim.Native.Nat.{◌-◌}
 use Rattle.closing.proofs.TableLaws.{Checking}
 use Rattle.closing.proofs.check_tree.Given as goal
 
 abbrev pub invariant-loop-i : goal.invariant-loop-i
 invariant-loop-i l = Checking l.segwit l.nodes l.keys l.material l.i
-
-abbrev pub decreases-loop-i : goal.decreases-loop-i
-decreases-loop-i l = l.count - l.i

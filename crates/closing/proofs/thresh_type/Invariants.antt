@@ -1,10 +1,6 @@
 -- `closing::thresh_type` meets its contract. The loop over a thresh's children, of WayLaws.
-use Prim.Native.Nat.{◌-◌}
 use Rattle.closing.proofs.WayLaws.{Threshing}
 use Rattle.closing.proofs.thresh_type.Given as goal
 
 abbrev pub invariant-loop-i : goal.invariant-loop-i
 invariant-loop-i l = Threshing l.nodes l.m l.n l.earlier l.at l.i
-
-abbrev pub decreases-loop-i : goal.decreases-loop-i
-decreases-loop-i l = l.n - l.i

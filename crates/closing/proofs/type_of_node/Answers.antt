@@ -1,4 +1,5 @@
 -- `closing::type_of_node` meets its contract. By the number of children.
+use Rattle.std.proofs.Common.{arith}
 use Rattle.closing.proofs.WayLaws.{counts, has_one, has_two, has_three, has_none}
 use Rattle.closing.proofs.type_of_node.Goals as goal
 use Rattle.judge.specs.NodeTable.{node_of}
@@ -17,4 +18,4 @@ pub returns-in-3 : goal.returns-in-3
 returns-in-3 c = has_three (shape_held c.args.s) (node_of c.args.n) c.args.nodes.now c.args.m c.if-s.false c.in-3.is c.and_or_type.ensures
 
 pub returns-in_default : goal.returns-in_default
-returns-in_default c = has_none (shape_held c.args.s) (node_of c.args.n) c.args.nodes.now c.args.m c.if-s.false c.in_default.in_default-own.rest.0.0.1 c.in_default.in_default-own.rest.0.1 c.in_default.in_default-own.rest.1 c.leaf_of.ensures c.leaf_type.ensures
+returns-in_default c = has_none (shape_held c.args.s) (node_of c.args.n) c.args.nodes.now c.args.m c.if-s.false (λ e. omega arith) (λ e. omega arith) (λ e. omega arith) c.leaf_of.ensures c.leaf_type.ensures

@@ -1,122 +1,72 @@
--- `node_shape::shape_of` meets its contract. Each arm's shape is the definition's at its kind.
-use Prim.Native.Nat.{ℕ}
-use Rattle.encoding.proofs.LookLaws.{unknown_kind}
+-- `node_shape::shape_of` meets its contract. Each arm's shape is the definition's at its kinds.
+use Rattle.std.proofs.Common.{◌≡◌, arith, refl, sym, ap, ◌∙◌}
+use Rattle.std.proofs.Math.Option.{some}
+use Rattle.std.proofs.Math.Bool.{false}
 use Rattle.encoding.specs.Form.{shape, shape_of}
-use Rattle.node_shape.proofs.RowLaws.{at_kind}
+use Rattle.node_shape.specs.Shapes.{shape_held}
+use Rattle.node_shape.proofs.RowLaws.{at_kind, one_of, no_kind_above}
 use Rattle.node_shape.proofs.shape_of.Goals as goal
 use Rattle.standard.specs.Table.{terminal_of}
-use mathlib.Core.Bool.{false}
-use mathlib.Core.Option.{some}
-use mathlib.Core.Path.{sym, ap, ◌∙◌}
 
 pub returns-in-1 : goal.returns-in-1
 unfolding terminal_of
-returns-in-1 c = at_kind (shape_of c.args.segwit) 1 c.in-1.is c.parent.ensures
-
-pub returns-in-2 : goal.returns-in-2
-unfolding terminal_of
-returns-in-2 c = at_kind (shape_of c.args.segwit) 2 c.in-2.is c.parent-in-2.ensures
+returns-in-1 c = let e = ap some c.parent-in-1.ensures in one_of (λ k. some (shape_held c.parent-in-1.result) ≡ shape_of c.args.segwit (terminal_of k)) 2 1 c.args.kind (e, (e, tt)) (omega arith) (omega arith)
 
 pub returns-in-3 : goal.returns-in-3
 unfolding terminal_of
-returns-in-3 c = at_kind (shape_of c.args.segwit) 3 c.in-3.is (c.with_data.ensures ∙ ap (λ (k : ℕ). some (shape false false k 0 0)) c.key_length.ensures)
+returns-in-3 c = at_kind (shape_of c.args.segwit) 3 c.in-3.is (ap some (c.with_data.ensures ∙ ap (λ k. shape false false k 0 0) c.key_length.ensures))
 
 pub returns-in-5 : goal.returns-in-5
 unfolding terminal_of
-returns-in-5 c = at_kind (shape_of c.args.segwit) 5 c.in-5.is c.with_data-in-5.ensures
+returns-in-5 c = at_kind (shape_of c.args.segwit) 5 c.in-5.is (ap some c.with_data-in-5.ensures)
 
 pub returns-in-6 : goal.returns-in-6
 unfolding terminal_of
-returns-in-6 c = at_kind (shape_of c.args.segwit) 6 c.in-6.is c.with_number.ensures
-
-pub returns-in-7 : goal.returns-in-7
-unfolding terminal_of
-returns-in-7 c = at_kind (shape_of c.args.segwit) 7 c.in-7.is c.with_number-in-7.ensures
+returns-in-6 c = let e = ap some c.with_number-in-6.ensures in one_of (λ k. some (shape_held c.with_number-in-6.result) ≡ shape_of c.args.segwit (terminal_of k)) 2 6 c.args.kind (e, (e, tt)) (omega arith) (omega arith)
 
 pub returns-in-8 : goal.returns-in-8
 unfolding terminal_of
-returns-in-8 c = at_kind (shape_of c.args.segwit) 8 c.in-8.is c.with_data-in-8.ensures
-
-pub returns-in-9 : goal.returns-in-9
-unfolding terminal_of
-returns-in-9 c = at_kind (shape_of c.args.segwit) 9 c.in-9.is c.with_data-in-9.ensures
+returns-in-8 c = let e = ap some c.with_data-in-8.ensures in one_of (λ k. some (shape_held c.with_data-in-8.result) ≡ shape_of c.args.segwit (terminal_of k)) 2 8 c.args.kind (e, (e, tt)) (omega arith) (omega arith)
 
 pub returns-in-10 : goal.returns-in-10
 unfolding terminal_of
-returns-in-10 c = at_kind (shape_of c.args.segwit) 10 c.in-10.is c.with_data-in-10.ensures
+returns-in-10 c = let e = ap some c.with_data-in-10.ensures in one_of (λ k. some (shape_held c.with_data-in-10.result) ≡ shape_of c.args.segwit (terminal_of k)) 2 10 c.args.kind (e, (e, tt)) (omega arith) (omega arith)
 
-pub returns-in-11 : goal.returns-in-11
+pub returns-in-12-to-18 : goal.returns-in-12-to-18
 unfolding terminal_of
-returns-in-11 c = at_kind (shape_of c.args.segwit) 11 c.in-11.is c.with_data-in-11.ensures
-
-pub returns-in-12 : goal.returns-in-12
-unfolding terminal_of
-returns-in-12 c = at_kind (shape_of c.args.segwit) 12 c.in-12.is c.parent-in-12.ensures
-
-pub returns-in-13 : goal.returns-in-13
-unfolding terminal_of
-returns-in-13 c = at_kind (shape_of c.args.segwit) 13 c.in-13.is c.parent-in-13.ensures
-
-pub returns-in-14 : goal.returns-in-14
-unfolding terminal_of
-returns-in-14 c = at_kind (shape_of c.args.segwit) 14 c.in-14.is c.parent-in-14.ensures
-
-pub returns-in-15 : goal.returns-in-15
-unfolding terminal_of
-returns-in-15 c = at_kind (shape_of c.args.segwit) 15 c.in-15.is c.parent-in-15.ensures
-
-pub returns-in-16 : goal.returns-in-16
-unfolding terminal_of
-returns-in-16 c = at_kind (shape_of c.args.segwit) 16 c.in-16.is c.parent-in-16.ensures
-
-pub returns-in-17 : goal.returns-in-17
-unfolding terminal_of
-returns-in-17 c = at_kind (shape_of c.args.segwit) 17 c.in-17.is c.parent-in-17.ensures
-
-pub returns-in-18 : goal.returns-in-18
-unfolding terminal_of
-returns-in-18 c = at_kind (shape_of c.args.segwit) 18 c.in-18.is c.parent-in-18.ensures
+returns-in-12-to-18 c = let e = ap some c.parent-in-12-to-18.ensures in one_of (λ k. some (shape_held c.parent-in-12-to-18.result) ≡ shape_of c.args.segwit (terminal_of k)) 7 12 c.args.kind (e, (e, (e, (e, (e, (e, (e, tt))))))) (omega arith) (omega arith)
 
 pub returns-in-19 : goal.returns-in-19
 unfolding terminal_of
-returns-in-19 c = at_kind (shape_of c.args.segwit) 19 c.in-19.is c.parent-in-19.ensures
-
-pub returns-in-20 : goal.returns-in-20
-unfolding terminal_of
-returns-in-20 c = at_kind (shape_of c.args.segwit) 20 c.in-20.is c.parent-in-20.ensures
+returns-in-19 c = let e = ap some c.parent-in-19.ensures in one_of (λ k. some (shape_held c.parent-in-19.result) ≡ shape_of c.args.segwit (terminal_of k)) 2 19 c.args.kind (e, (e, tt)) (omega arith) (omega arith)
 
 pub returns-in-21 : goal.returns-in-21
 unfolding terminal_of
-returns-in-21 c = at_kind (shape_of c.args.segwit) 21 c.in-21.is c.parent-in-21.ensures
+returns-in-21 c = at_kind (shape_of c.args.segwit) 21 c.in-21.is (ap some c.parent.ensures)
 
-pub returns-in-22 : goal.returns-in-22
+pub returns-in-22-to-25 : goal.returns-in-22-to-25
 unfolding terminal_of
-returns-in-22 c = at_kind (shape_of c.args.segwit) 22 c.in-22.is c.parent-in-22.ensures
-
-pub returns-in-23 : goal.returns-in-23
-unfolding terminal_of
-returns-in-23 c = at_kind (shape_of c.args.segwit) 23 c.in-23.is c.parent-in-23.ensures
-
-pub returns-in-24 : goal.returns-in-24
-unfolding terminal_of
-returns-in-24 c = at_kind (shape_of c.args.segwit) 24 c.in-24.is c.parent-in-24.ensures
-
-pub returns-in-25 : goal.returns-in-25
-unfolding terminal_of
-returns-in-25 c = at_kind (shape_of c.args.segwit) 25 c.in-25.is c.parent-in-25.ensures
+returns-in-22-to-25 c = let e = ap some c.parent-in-22-to-25.ensures in one_of (λ k. some (shape_held c.parent-in-22-to-25.result) ≡ shape_of c.args.segwit (terminal_of k)) 4 22 c.args.kind (e, (e, (e, (e, tt)))) (omega arith) (omega arith)
 
 pub returns-in-26 : goal.returns-in-26
 unfolding terminal_of
-returns-in-26 c = at_kind (shape_of c.args.segwit) 26 c.in-26.is c.with_number-in-26.ensures
+returns-in-26 c = at_kind (shape_of c.args.segwit) 26 c.in-26.is (ap some c.with_number.ensures)
 
 pub returns-in-27 : goal.returns-in-27
 unfolding terminal_of
-returns-in-27 c = at_kind (shape_of c.args.segwit) 27 c.in-27.is c.with_number-in-27.ensures
+returns-in-27 c = at_kind (shape_of c.args.segwit) 27 c.in-27.is (ap some c.with_number-in-27.ensures)
 
 pub returns-in-28 : goal.returns-in-28
 unfolding terminal_of
-returns-in-28 c = at_kind (shape_of c.args.segwit) 28 c.in-28.is c.with_number-in-28.ensures
+returns-in-28 c = at_kind (shape_of c.args.segwit) 28 c.in-28.is (ap some c.with_number-in-28.ensures)
 
 pub returns-in_default : goal.returns-in_default
 unfolding terminal_of
-returns-in_default c = sym (ap (shape_of c.args.segwit) (unknown_kind c.args.kind c.in_default.in_default-own.rest))
+returns-in_default c = let e : c.args.kind ≡ 0 = omega arith in at_kind (shape_of c.args.segwit) 0 e refl
+
+pub returns-in_default-2 : goal.returns-in_default-2
+unfolding terminal_of
+returns-in_default-2 c = let e : c.args.kind ≡ 4 = omega arith in at_kind (shape_of c.args.segwit) 4 e refl
+
+pub returns-in_default-3 : goal.returns-in_default-3
+returns-in_default-3 c = sym (ap (shape_of c.args.segwit) (no_kind_above c.args.kind (omega arith)))

@@ -3,16 +3,16 @@ use Rattle.script_length.proofs.WalkLaws.{fusible_there, plain_there, to_first, 
 use Rattle.script_length.proofs.ends_fusible.Goals as goal
 
 pub returns-in-Fusible : goal.returns-in-Fusible
-returns-in-Fusible c = fusible_there c.args.nodes.now c.args.m c.loop-at.at c.ending_of-end.result c.loop-at.invariant c.loop-at-test.true c.ending_of-end.ensures c.in-Fusible.is
+returns-in-Fusible c = fusible_there c.args.nodes.now c.args.m c.loop-at.at c.ending_of.result c.loop-at.invariant c.loop-at-test.true c.ending_of.ensures c.in-Fusible.is
 
 pub returns-in-Plain : goal.returns-in-Plain
-returns-in-Plain c = plain_there c.args.nodes.now c.args.m c.loop-at.at c.ending_of-end.result c.loop-at.invariant c.loop-at-test.true c.ending_of-end.ensures c.in-Plain.is
+returns-in-Plain c = plain_there c.args.nodes.now c.args.m c.loop-at.at c.ending_of.result c.loop-at.invariant c.loop-at-test.true c.ending_of.ensures c.in-Plain.is
 
 pub loop-at-preserved-in-OfFirst : goal.loop-at-preserved-in-OfFirst
-loop-at-preserved-in-OfFirst c = to_first c.args.nodes.now c.args.m c.loop-at.at c.ending_of-end.result c.loop-at.invariant c.loop-at-test.true c.ending_of-end.ensures c.in-OfFirst.is
+loop-at-preserved-in-OfFirst c = to_first c.args.nodes.now c.args.m c.loop-at.at c.ending_of.result c.loop-at.invariant c.loop-at-test.true c.ending_of.ensures c.in-OfFirst.is
 
 pub loop-at-preserved : goal.loop-at-preserved
-loop-at-preserved c = to_second c.args.nodes.now c.args.m c.loop-at.at c.ending_of-end.result c.loop-at.invariant c.loop-at-test.true c.ending_of-end.ensures c.under_newest-at.result c.in-OfSecond.is c.under_newest-at.ensures
+loop-at-preserved c = to_second c.args.nodes.now c.args.m c.loop-at.at c.ending_of.result c.loop-at.invariant c.loop-at-test.true c.ending_of.ensures c.under_newest-at.result c.in-OfSecond.is c.under_newest-at.ensures
 
 pub returns : goal.returns
 returns c = nothing_left c.args.nodes.now c.args.m c.loop-at.at c.loop-at.invariant c.loop-at-test.false

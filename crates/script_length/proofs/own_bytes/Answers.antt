@@ -1,16 +1,12 @@
--- `script_length::own_bytes` meets its contract. Each arm adds what the definition says of its kind.
-use Rattle.script_length.proofs.KindLaws.{called, fixed, unknown}
-use Rattle.script_length.proofs.own_bytes.Goals as goal
+-- `script_length::own_bytes` meets its contract. Each arm adds what the definition says of its kinds.
+use Rattle.std.proofs.Common.{arith, refl}
 use Rattle.standard.specs.Table.{terminal_of}
-use mathlib.Core.Path.{refl}
+use Rattle.script_length.proofs.KindLaws.{called, called_range, fixed, fixed_range, unknown}
+use Rattle.script_length.proofs.own_bytes.Goals as goal
 
 pub returns-in-1 : goal.returns-in-1
 unfolding terminal_of
-returns-in-1 c = fixed c.args.segwit c.args.nodes.now c.args.i 1 c.in-1.is refl refl
-
-pub returns-in-2 : goal.returns-in-2
-unfolding terminal_of
-returns-in-2 c = fixed c.args.segwit c.args.nodes.now c.args.i 2 c.in-2.is refl refl
+returns-in-1 c = fixed_range c.args.segwit c.args.nodes.now c.args.i 2 1 (refl, (refl, tt)) refl (omega arith) (omega arith)
 
 pub returns-in-3 : goal.returns-in-3
 unfolding terminal_of
@@ -22,27 +18,15 @@ returns-in-5 c = fixed c.args.segwit c.args.nodes.now c.args.i 5 c.in-5.is refl 
 
 pub returns-in-6 : goal.returns-in-6
 unfolding terminal_of
-returns-in-6 c = called c.args.segwit c.args.nodes.now c.args.i 6 c.in-6.is c.lock_bytes.ensures
-
-pub returns-in-7 : goal.returns-in-7
-unfolding terminal_of
-returns-in-7 c = called c.args.segwit c.args.nodes.now c.args.i 7 c.in-7.is c.lock_bytes-in-7.ensures
+returns-in-6 c = called_range c.args.segwit c.args.nodes.now c.args.i 2 6 (c.lock_bytes.ensures, (c.lock_bytes.ensures, tt)) (omega arith) (omega arith)
 
 pub returns-in-8 : goal.returns-in-8
 unfolding terminal_of
-returns-in-8 c = fixed c.args.segwit c.args.nodes.now c.args.i 8 c.in-8.is refl refl
-
-pub returns-in-9 : goal.returns-in-9
-unfolding terminal_of
-returns-in-9 c = fixed c.args.segwit c.args.nodes.now c.args.i 9 c.in-9.is refl refl
+returns-in-8 c = fixed_range c.args.segwit c.args.nodes.now c.args.i 2 8 (refl, (refl, tt)) refl (omega arith) (omega arith)
 
 pub returns-in-10 : goal.returns-in-10
 unfolding terminal_of
-returns-in-10 c = fixed c.args.segwit c.args.nodes.now c.args.i 10 c.in-10.is refl refl
-
-pub returns-in-11 : goal.returns-in-11
-unfolding terminal_of
-returns-in-11 c = fixed c.args.segwit c.args.nodes.now c.args.i 11 c.in-11.is refl refl
+returns-in-10 c = fixed_range c.args.segwit c.args.nodes.now c.args.i 2 10 (refl, (refl, tt)) refl (omega arith) (omega arith)
 
 pub returns-in-12 : goal.returns-in-12
 unfolding terminal_of
@@ -50,11 +34,7 @@ returns-in-12 c = fixed c.args.segwit c.args.nodes.now c.args.i 12 c.in-12.is re
 
 pub returns-in-13 : goal.returns-in-13
 unfolding terminal_of
-returns-in-13 c = fixed c.args.segwit c.args.nodes.now c.args.i 13 c.in-13.is refl refl
-
-pub returns-in-14 : goal.returns-in-14
-unfolding terminal_of
-returns-in-14 c = fixed c.args.segwit c.args.nodes.now c.args.i 14 c.in-14.is refl refl
+returns-in-13 c = fixed_range c.args.segwit c.args.nodes.now c.args.i 2 13 (refl, (refl, tt)) refl (omega arith) (omega arith)
 
 pub returns-in-15 : goal.returns-in-15
 unfolding terminal_of
@@ -114,4 +94,12 @@ returns-in-28 c = called c.args.segwit c.args.nodes.now c.args.i 28 c.in-28.is c
 
 pub returns-in_default : goal.returns-in_default
 unfolding terminal_of
-returns-in_default c = unknown c.args.segwit c.args.nodes.now c.args.i c.in_default.in_default-own.rest
+returns-in_default c = fixed c.args.segwit c.args.nodes.now c.args.i 0 (omega arith) refl refl
+
+pub returns-in_default-2 : goal.returns-in_default-2
+unfolding terminal_of
+returns-in_default-2 c = fixed c.args.segwit c.args.nodes.now c.args.i 4 (omega arith) refl refl
+
+pub returns-in_default-3 : goal.returns-in_default-3
+unfolding terminal_of
+returns-in_default-3 c = unknown c.args.segwit c.args.nodes.now c.args.i (omega arith)
