@@ -1,7 +1,7 @@
 // What a line of hexadecimal means, read byte by byte, however long the line is: document 01, section "Program".
 #![tactic(auto)]
 
-ghost use Rattle.std.specs.Prelude.{◌≡◌, ◌+◌, ◌*◌, ◌%◌, take};
+ghost use Rattle.std.specs.Prelude.{◌≡◌, ◌+◌, ◌*◌, ◌%◌, ◌<◌, IfSome, take};
 ghost use Rattle.hex_line.specs.Digits.{digit_in};
 ghost use Rattle.hex_line.specs.Meant.{number_of};
 ghost use Rattle.hex_line.specs.Feeding.{fed, step, stopped, line_fed, ended, untouched};
@@ -58,7 +58,8 @@ impl Refusal {
 // The value of a hexadecimal digit of either case; nothing for any other byte.
 #[tactic(auto, unfolding(crate::specs::Digits::digit_of))]
 pub fn digit(b: u8) -> Option<u8>
-    ensures { result ≡ digit_in b }
+    ensures value { result ≡ digit_in b }
+    ensures below_16 { IfSome result (λ d. d < 16) }
 {
     match b {
         b'0'..=b'9' => Some(b - 48),
