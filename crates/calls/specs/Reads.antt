@@ -1,10 +1,6 @@
--- How many reads may still follow a part of standard input: none behind its end. Assumes nothing.
-use Rattle.std.specs.Prelude.{Bool, true, false, ℕ, suc}
-use Rattle.calls.specs.declared.Part.{Part}
+-- How many reads may still follow: none behind the end of standard input. Assumes nothing.
+use Rattle.std.specs.Prelude.{ℕ}
+use Rattle.calls.specs.declared.Reads.{Reads}
 
-abbrev pub unless_ended : Bool → ℕ → ℕ
-unless_ended true reads = 0
-unless_ended false reads = suc reads
-
-abbrev pub reads_left : Part → ℕ
-reads_left part = unless_ended part.ended part.reads
+abbrev pub reads_left : Reads → ℕ
+reads_left reads = reads.left

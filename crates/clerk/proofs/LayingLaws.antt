@@ -1,7 +1,7 @@
 -- Laying out a listing line by line: what is in the output and what is left of the listing stay the same text together. Assumes nothing.
 use mathlib.Core.Path.{◌≡◌, refl, sym, ap, subst, ◌∙◌}
 use mathlib.Core.Bool.{Bool, true, false}
-use mathlib.Core.List.{List, [], ◌∷◌, ◌++◌, append_assoc, append-nil}
+use mathlib.Core.List.{List, [], ◌++◌, append_assoc}
 use Prim.Native.Nat.{ℕ, suc, ◌+◌, ◌-◌, ◌≤◌, ◌<◌}
 use native.Mathlib.Omega.{arith}
 use lib.Dec.{eqb, leb}
@@ -12,7 +12,7 @@ use Rattle.listing.specs.declared.Header.{Header}
 use Rattle.listing.specs.Output.{Put, write, put, puts}
 use Rattle.listing.specs.Lines.{header_line, node_line, type_word, key_line}
 use Rattle.listing.specs.Listing.{lines_from, listing, line_at}
-use Rattle.listing.specs.ListingLaws.{put_within, put_fits, put_moved, line_short, listing_is_its_lines}
+use Rattle.listing.specs.ListingLaws.{put_fits, put_moved, line_short, listing_is_its_lines}
 use Rattle.clerk.specs.declared.Hand.{Hand}
 use Rattle.clerk.specs.Owed.{line_count, rest_of, laid}
 

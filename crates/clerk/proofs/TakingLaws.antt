@@ -1,21 +1,20 @@
 -- Taking a line of the input: the part ends within it, or it ends and is answered. And the beginning of a part, or the end of the input. Assumes nothing.
 use mathlib.Core.Path.{◌≡◌, refl, sym, ap, subst, ◌∙◌}
 use mathlib.Core.Bool.{Bool, true, false}
-use mathlib.Core.List.{List, [], ◌∷◌, ◌++◌, append-nil}
+use mathlib.Core.List.{List, [], ◌∷◌, ◌++◌}
 use Prim.Native.Nat.{ℕ, suc, ◌+◌, ◌-◌, ◌≤◌, ◌<◌}
 use native.Mathlib.Omega.{arith}
 use lib.ListN.{length, take, drop, length-drop, drop_of_length-le}
 use lib.Seq.{length-take-le, drop-drop}
 use Rattle.hex_line.specs.declared.Line.{Line}
 use Rattle.hex_line.specs.declared.Line.TheVariants.{Nothing}
-use Rattle.hex_line.specs.Meant.{Meant}
-use Rattle.hex_line.specs.Feeding.{Fed, fed, feed_all, of_line, Stopped, stopped, line_fed, told_of, untouched, told_all, told_in, left_by}
+use Rattle.hex_line.specs.Feeding.{Fed, fed, feed_all, of_line, Stopped, stopped, line_fed, told_of, untouched, told_in, left_by}
 use Rattle.hex_line.proofs.FeedingLaws.{line_goes_on, line_ends}
 use Rattle.listing.specs.declared.Header.{Header}
 use Rattle.listing.specs.Listing.{listing}
 use Rattle.reply.specs.Program.{text_of, texts_of}
 use Rattle.clerk.specs.declared.Hand.{Hand}
-use Rattle.clerk.specs.Owed.{line_count, rest_of, owed, leaves, due, started}
+use Rattle.clerk.specs.Owed.{line_count, owed, leaves, due, started}
 use Rattle.clerk.proofs.LayingLaws.{none_left, all_left}
 
 pub part_length : (input : List ℕ) (n : ℕ) → n ≤ 4096 → 4096 ≡ length input → length (take n input) ≡ n

@@ -1,12 +1,11 @@
 -- A turn: lines are taken and laid out while the output has room, and what is laid out with what is still owed stays what was owed at first. Assumes nothing.
 use mathlib.Core.Path.{◌≡◌, refl, sym, ap, subst, ◌∙◌}
 use mathlib.Core.Bool.{Bool, true, false, true≢false}
-use mathlib.Core.List.{List, [], ◌++◌, append_assoc}
-use Prim.Native.Nat.{ℕ, ◌+◌, ◌-◌, ◌≤◌, ◌<◌}
+use mathlib.Core.List.{List, ◌++◌, append_assoc}
+use Prim.Native.Nat.{ℕ, ◌-◌, ◌≤◌, ◌<◌}
 use native.Mathlib.Omega.{arith}
-use lib.ListN.{length, take, drop}
+use lib.ListN.{take, drop}
 use Rattle.hex_line.specs.Feeding.{Fed, fed, told_in}
-use Rattle.listing.specs.declared.Header.{Header}
 use Rattle.reply.specs.Program.{texts_of}
 use Rattle.clerk.specs.declared.Hand.{Hand}
 use Rattle.clerk.specs.Owed.{line_count, rest_of, owed, leaves, laid, Ready, Answered, Says}

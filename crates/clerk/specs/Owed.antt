@@ -1,5 +1,5 @@
 -- What is still to be written for a part of the input, by what the clerk has in hand: the rest of a listing, then the texts of the lines that end in the rest of the part.
-use Rattle.std.specs.Prelude.{◌≡◌, Bool, true, false, List, [], ◌∷◌, ◌++◌, ℕ, suc, ◌+◌, ◌-◌, ◌≤◌, ◌<◌, length, drop}
+use Rattle.std.specs.Prelude.{Bool, true, false, List, [], ◌∷◌, ◌++◌, ℕ, suc, ◌+◌, ◌-◌, ◌≤◌, ◌<◌, drop}
 use Rattle.hex_line.specs.declared.Line.{Line}
 use Rattle.hex_line.specs.Feeding.{Fed, fed, told_all, told_in, left_by}
 use Rattle.listing.specs.declared.Header.{Header}

@@ -15,6 +15,7 @@ ghost use Rattle.clerk.specs.Owed.{line_count, rest_of, owed, leaves, due, start
 use calls::Wrote;
 use hex_line::Line;
 use listing::Header;
+use reply::Tables;
 
 // What the clerk has in hand while a part of the input is answered.
 #[derive(Clone, Copy)]
@@ -35,22 +36,14 @@ pub struct Hand {
 fn count_lines(h: Header) -> usize
     ensures { result ≡ line_count h }
 {
-    1 + tables::long(h.nodes) + tables::long(h.keys)
+    1 + h.nodes as usize + h.keys as usize
 }
 
 // The same hand, further along its listing.
 fn moved(hand: Hand, next: usize, used: usize) -> Hand
     ensures { result ≡ laid hand next used }
 {
-    let line = hand.line;
-    let header = hand.header;
-    Hand {
-        line,
-        at: hand.at,
-        header,
-        next,
-        used,
-    }
+    Hand { next, used, ..hand }
 }
 
 // The lines of the listing at hand, behind the first `used` bytes of the output, until all of them are there or the next doesn't fit.
@@ -64,33 +57,23 @@ fn lay_out(
     requires { used ≤ 8192 }
     ensures { (result ≡ laid hand result.next result.used) × (result.used ≤ 8192) × (result.used ≡ 0 → line_count hand.header ≤ result.next) × (take result.used out.new ++ rest_of hand.header result.next nodes.now keys.now ≡ take used out.old ++ rest_of hand.header hand.next nodes.now keys.now) }
 {
-    let header = hand.header;
-    let lines = count_lines(header);
-    let mut next = hand.next;
+    let lines = count_lines(hand.header);
     let mut end = used;
-    while next < lines {
-        let more = listing::put_line(out, end, header, nodes, keys, next);
+    for next in hand.next..lines {
+        let more = listing::put_line(out, end, hand.header, nodes, keys, next);
         if more == end {
             return moved(hand, next, end);
         }
         end = more;
-        next += 1;
     }
-    moved(hand, next, end)
+    moved(hand, hand.next.max(lines), end)
 }
 
 // Whether the next line of the input can be taken.
 fn is_ready(hand: Hand, n: usize) -> bool
     ensures { Says result (Ready hand n) }
 {
-    let header = hand.header;
-    if hand.next < count_lines(header) {
-        return false;
-    }
-    if n <= hand.at {
-        return false;
-    }
-    true
+    count_lines(hand.header) <= hand.next && hand.at < n
 }
 
 // The line at hand, up to its line feed or the end of the part. If it ends, its listing is the one to be laid out now.
@@ -99,34 +82,24 @@ fn take_line(
     input: &[u8; 4096],
     n: usize,
     script: &mut [u8; 520],
-    tokens: &mut [u32; 3120],
-    nodes: &mut [u32; 4608],
-    keys: &mut [u32; 128],
-    work: &mut [u64; 1024],
+    tables: &mut Tables,
 ) -> Hand
     requires { (n ≤ 4096) × Ready hand n }
-    ensures { (hand.at < result.at) × (result.at ≤ n) × (leaves result (take n input.now) script.new ≡ leaves hand (take n input.now) script.old) × (owed result (take n input.now) script.new nodes.new keys.new ≡ texts_of (told_in (fed hand.line script.old) (drop hand.at (take n input.now)))) }
+    ensures { (hand.at < result.at) × (result.at ≤ n) × (leaves result (take n input.now) script.new ≡ leaves hand (take n input.now) script.old) × (owed result (take n input.now) script.new tables.new.nodes tables.new.keys ≡ texts_of (told_in (fed hand.line script.old) (drop hand.at (take n input.now)))) }
 {
-    let open = hand.line;
-    let stop = hex_line::feed_line(open, input, hand.at, n, script);
-    let at = stop.at;
-    let line = stop.line;
-    if n <= at {
-        let header = hand.header;
+    let stop = hex_line::feed_line(hand.line, input, hand.at, n, script);
+    if n <= stop.at {
         return Hand {
-            line,
+            line: stop.line,
             at: n,
-            header,
-            next: hand.next,
             used: 0,
+            ..hand
         };
     }
-    let header = reply::answer(line, script, tokens, nodes, keys, work);
-    let after = at + 1;
     Hand {
         line: Line::Nothing,
-        at: after,
-        header,
+        at: stop.at + 1,
+        header: reply::answer(stop.line, script, tables),
         next: 0,
         used: 0,
     }
@@ -138,20 +111,17 @@ pub fn turn(
     input: &[u8; 4096],
     n: usize,
     script: &mut [u8; 520],
-    tokens: &mut [u32; 3120],
-    nodes: &mut [u32; 4608],
-    keys: &mut [u32; 128],
-    work: &mut [u64; 1024],
+    tables: &mut Tables,
     out: &mut [u8; 8192],
 ) -> Hand
     requires { (n ≤ 4096) × (hand.at ≤ n) × (hand.used ≡ 0) }
-    ensures { (result.at ≤ n) × (result.used ≤ 8192) × (result.used ≡ 0 → Answered result n) × (leaves result (take n input.now) script.new ≡ leaves hand (take n input.now) script.old) × (take result.used out.new ++ owed result (take n input.now) script.new nodes.new keys.new ≡ owed hand (take n input.now) script.old nodes.old keys.old) }
+    ensures { (result.at ≤ n) × (result.used ≤ 8192) × (result.used ≡ 0 → Answered result n) × (leaves result (take n input.now) script.new ≡ leaves hand (take n input.now) script.old) × (take result.used out.new ++ owed result (take n input.now) script.new tables.new.nodes tables.new.keys ≡ owed hand (take n input.now) script.old tables.old.nodes tables.old.keys) }
 {
-    let mut held = lay_out(hand, 0, nodes, keys, out);
+    let mut held = lay_out(hand, 0, &tables.nodes, &tables.keys, out);
     while is_ready(held, n) {
         let used = held.used;
-        let taken = take_line(held, input, n, script, tokens, nodes, keys, work);
-        held = lay_out(taken, used, nodes, keys, out);
+        let taken = take_line(held, input, n, script, tables);
+        held = lay_out(taken, used, &tables.nodes, &tables.keys, out);
     }
     held
 }
@@ -161,9 +131,7 @@ pub fn written(hand: Hand, wrote: Wrote) -> Hand
     requires { wrote.n ≤ hand.used }
     ensures { result ≡ laid hand hand.next (hand.used - wrote.n) }
 {
-    let next = hand.next;
-    let left = hand.used - calls::taken(wrote);
-    moved(hand, next, left)
+    moved(hand, hand.next, hand.used - wrote.taken())
 }
 
 // Nothing of a part read, and nothing to be laid out yet.
@@ -189,28 +157,16 @@ fn start(line: Line) -> Hand
 
 // A part of the input has come, of n bytes, while a line was open. None says that the input has ended: bytes after the last line feed are a
 // line then, and nothing there is none.
-pub fn receive(
-    line: Line,
-    n: usize,
-    script: &[u8; 520],
-    tokens: &mut [u32; 3120],
-    nodes: &mut [u32; 4608],
-    keys: &mut [u32; 128],
-    work: &mut [u64; 1024],
-) -> Hand
-    ensures { (result.at ≡ 0) × (result.used ≡ 0) × ((part : List ℕ) → length part ≡ n → (owed result part script.now nodes.new keys.new ≡ due (fed line script.now) part) × (0 < n → leaves result part script.now ≡ left_by (fed line script.now) part)) }
+pub fn receive(line: Line, n: usize, script: &[u8; 520], tables: &mut Tables) -> Hand
+    ensures { (result.at ≡ 0) × (result.used ≡ 0) × ((part : List ℕ) → length part ≡ n → (owed result part script.now tables.new.nodes tables.new.keys ≡ due (fed line script.now) part) × (0 < n → leaves result part script.now ≡ left_by (fed line script.now) part)) }
 {
-    if n > 0 {
+    if n > 0 || hex_line::is_nothing(line) {
         return start(line);
     }
-    if hex_line::is_nothing(line) {
-        return start(line);
-    }
-    let header = reply::answer(line, script, tokens, nodes, keys, work);
     Hand {
         line,
         at: 0,
-        header,
+        header: reply::answer(line, script, tables),
         next: 0,
         used: 0,
     }

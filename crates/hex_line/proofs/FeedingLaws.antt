@@ -1,13 +1,14 @@
 -- Feeding a line and ending it gives exactly what the line means, the script at the buffer's front; what the buffer held before never matters. Assumes nothing.
 -- Why: after an even number of digits the buffer's front holds the script bytes so far, or there are too many of them; each pair adds one.
-use Rattle.std.specs.Prelude.{◌≡◌, refl, Bool, true, false, List, [], ◌∷◌, ◌++◌, map, ℕ, suc, ◌+◌, ◌*◌, ◌≤◌, ◌<◌, eqb, leb, ltb, length, take, drop, set}
+use Rattle.std.specs.Prelude.{◌≡◌, refl, Bool, true, false, List, [], ◌∷◌, ◌++◌, map, ℕ, suc, ◌+◌, ◌*◌, ◌≤◌, ◌<◌, eqb, leb, ltb, length, take, drop, set, Result, Ok, Err}
 use Rattle.std.proofs.Common.{sym, ap, subst, ◌∙◌, append_assoc, append-nil, mod-eq_of_lt, add-one, arith, length-append, length-set, take-suc-set, le-ltb, ltb-true, ltb-false, le-leb, leb-true}
 use Rattle.std.proofs.lemmas.Bool.{lt-leb}
 use Rattle.tables.specs.Choose.{pick}
 use Rattle.hex_line.specs.declared.Line.{Line}
 use Rattle.hex_line.specs.declared.Line.TheVariants.{Nothing, HalfKind, Whole, Half, NotHex}
-use Rattle.hex_line.specs.declared.Meaning.{Meaning}
-use Rattle.hex_line.specs.declared.Meaning.TheVariants as meaning
+use Rattle.hex_line.specs.declared.Script.{Script}
+use Rattle.hex_line.specs.declared.Refusal.{Refusal}
+use Rattle.hex_line.specs.declared.Refusal.TheVariants as refusal
 use Rattle.hex_line.specs.Digits.{digit_of, is_digit, Bytes, bytes, not_hex, before, bytes_of}
 use Rattle.hex_line.specs.Meant.{refused, script, meant_by, line_of}
 use Rattle.hex_line.specs.Input.{last_line, lines_from, input_of}
@@ -111,7 +112,7 @@ whole_told : (kind size : ℕ) (got buffer : List ℕ) → Kept got size buffer 
 unfolding ended
 whole_told kind size got buffer k = decide (leb kind 1) (λ e. simp e (sized k)) (λ e. simp e)
   where
-    sized : Kept got size buffer → told (pick (leb size 520) (meaning.Script kind size) (meaning.Refused 1)) buffer ≡ pick (leb (length got) 520) (script kind got) (refused 1)
+    sized : Kept got size buffer → told (pick (leb size 520) (Ok (record { kind = kind; size = size })) (Err refusal.TooLong)) buffer ≡ pick (leb (length got) 520) (script kind got) (refused 1)
     sized (few l h s t) = simp (le-leb size 520 (omega arith), le-leb (length got) 520 h, t)
     sized (many l h s) = simp (lt-leb size 520 (omega arith), lt-leb (length got) 520 h)
 
@@ -260,9 +261,9 @@ pub one_outcome_of_feed : (b : ℕ) (f : Fed) {r s : Line} {buffer other : List 
 one_outcome_of_feed b f p q = (ap (λ (g : Fed). g.line) (p ∙ sym q), ap (λ (g : Fed). g.buffer) (p ∙ sym q))
 
 -- a script that is to be read lies in the buffer
-abbrev Fits : Meaning → Type 0
-Fits (meaning.Refused number) = Unit {0}
-Fits (meaning.Script kind size) = size ≤ 520
+abbrev Fits : Result Script Refusal → Type 0
+Fits (Err why) = Unit {0}
+Fits (Ok s) = s.size ≤ 520
 
 ended_fits : (line : Line) → Fits (ended line)
 unfolding ended
@@ -272,8 +273,8 @@ ended_fits (Whole kind size) = decide (leb kind 1) (λ e. simp e (decide (leb si
 ended_fits (Half kind size high) = tt
 ended_fits NotHex = tt
 
-pub script_fits : (line : Line) (kind size : ℕ) {m : Meaning} → m ≡ ended line → m ≡ meaning.Script kind size → size ≤ 520
-script_fits line kind size e p = subst Fits (sym e ∙ p) (ended_fits line)
+pub script_fits : (line : Line) (s : Script) {m : Result Script Refusal} → m ≡ ended line → m ≡ Ok s → s.size ≤ 520
+script_fits line s e p = subst Fits (sym e ∙ p) (ended_fits line)
 
 -- a line is read forward
 pub stops_behind : (input : List ℕ) (from : ℕ) (f : Fed) {g : Fed} {at : ℕ} → stopped g at ≡ line_fed input from f → from ≤ at

@@ -1,5 +1,5 @@
 -- Hexadecimal digits of either case, and the bytes that pairs of digits stand for: document 01, section "Program", "Reads lines of hexadecimal, either case".
-use Rattle.std.specs.Prelude.{Bool, ◌&&◌, List, [], ◌∷◌, ℕ, ◌+◌, ◌-◌, ◌*◌, leb, ltb}
+use Rattle.std.specs.Prelude.{Bool, ◌&&◌, List, [], ◌∷◌, ℕ, ◌+◌, ◌-◌, ◌*◌, leb, ltb, Option, Some, None}
 use Rattle.tables.specs.Choose.{pick}
 
 -- the value of a digit by its ASCII code, `0` to `9`, `a` to `f` or `A` to `F`; 16 says that the byte is no digit
@@ -12,6 +12,10 @@ digit_of b =
 
 abbrev pub is_digit : ℕ → Bool
 is_digit b = ltb (digit_of b) 16
+
+-- the digit that a byte is, if it is one
+abbrev pub digit_in : ℕ → Option ℕ
+digit_in b = pick (is_digit b) (Some (digit_of b)) None
 
 -- the bytes that digits stand for
 pub data Bytes : Type 0 where

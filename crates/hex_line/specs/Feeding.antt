@@ -1,12 +1,13 @@
 -- For the proof: what feeding a line byte by byte does to how far it has been read and to the lent buffer. FeedingLaws says that it comes to what the line means.
-use Rattle.std.specs.Prelude.{Bool, true, false, List, [], ◌∷◌, ℕ, ◌+◌, ◌*◌, ◌%◌, eqb, leb, ltb, length, take, drop, set}
+use Rattle.std.specs.Prelude.{Bool, true, false, List, [], ◌∷◌, ℕ, ◌+◌, ◌*◌, ◌%◌, eqb, leb, ltb, length, take, drop, set, Result, Ok, Err}
 use Rattle.tables.specs.Choose.{pick}
 use Rattle.hex_line.specs.declared.Line.{Line}
 use Rattle.hex_line.specs.declared.Line.TheVariants.{Nothing, HalfKind, Whole, Half, NotHex}
-use Rattle.hex_line.specs.declared.Meaning.{Meaning}
-use Rattle.hex_line.specs.declared.Meaning.TheVariants as meaning
+use Rattle.hex_line.specs.declared.Script.{Script}
+use Rattle.hex_line.specs.declared.Refusal.{Refusal}
+use Rattle.hex_line.specs.declared.Refusal.TheVariants as refusal
 use Rattle.hex_line.specs.Digits.{digit_of}
-use Rattle.hex_line.specs.Meant.{Meant, refused, script}
+use Rattle.hex_line.specs.Meant.{Meant, refused, script, number_of}
 
 -- how far a line has been read, and the buffer
 pub record Fed : Type 0 where
@@ -55,17 +56,17 @@ unfoldable pub line_fed : List ℕ → ℕ → Fed → Stopped
 line_fed input from f = stopped (feed_all (of_line (drop from input)) f) (from + length (of_line (drop from input)))
 
 -- what the line means where it ends
-unfoldable pub ended : Line → Meaning
-ended Nothing = meaning.Refused 23
-ended (HalfKind high) = meaning.Refused 23
-ended (Whole kind size) = pick (leb kind 1) (pick (leb size 520) (meaning.Script kind size) (meaning.Refused 1)) (meaning.Refused 20)
-ended (Half kind size high) = meaning.Refused 23
-ended NotHex = meaning.Refused 23
+unfoldable pub ended : Line → Result Script Refusal
+ended Nothing = Err refusal.NotHex
+ended (HalfKind high) = Err refusal.NotHex
+ended (Whole kind size) = pick (leb kind 1) (pick (leb size 520) (Ok (record { kind = kind; size = size })) (Err refusal.TooLong)) (Err refusal.NoKind)
+ended (Half kind size high) = Err refusal.NotHex
+ended NotHex = Err refusal.NotHex
 
 -- a meaning with the script at the buffer's front
-abbrev pub told : Meaning → List ℕ → Meant
-told (meaning.Refused number) buffer = refused number
-told (meaning.Script kind size) buffer = script kind (take size buffer)
+abbrev pub told : Result Script Refusal → List ℕ → Meant
+told (Err why) buffer = refused (number_of why)
+told (Ok s) buffer = script s.kind (take s.size buffer)
 
 abbrev pub told_of : Fed → Meant
 told_of f = told (ended f.line) f.buffer

@@ -1,8 +1,9 @@
 // What a line of hexadecimal means, read byte by byte, however long the line is: document 01, section "Program".
 #![tactic(auto)]
 
-ghost use Rattle.std.specs.Prelude.{◌≡◌, ◌+◌, ◌*◌, ◌%◌, min, take};
-ghost use Rattle.hex_line.specs.Digits.{digit_of};
+ghost use Rattle.std.specs.Prelude.{◌≡◌, ◌+◌, ◌*◌, ◌%◌, ◌<◌, IfSome, take};
+ghost use Rattle.hex_line.specs.Digits.{digit_in};
+ghost use Rattle.hex_line.specs.Meant.{number_of};
 ghost use Rattle.hex_line.specs.Feeding.{fed, step, stopped, line_fed, ended, untouched};
 
 // The most script bytes that a line may have.
@@ -23,22 +24,48 @@ pub enum Line {
     NotHex,
 }
 
-// What a line means: document 01's number of a refusal, or a script to be read, so many bytes at the buffer's front.
+// A script to be read, so many bytes at the buffer's front.
 #[derive(Clone, Copy)]
-pub enum Meaning {
-    Refused(u32),
-    Script { kind: u32, size: usize },
+pub struct Script {
+    pub kind: u32,
+    pub size: usize,
 }
 
-// The value of a hexadecimal digit of either case; 16 for any other byte.
-pub fn digit(b: u8) -> u8
-    ensures { result ≡ digit_of b }
+// Why a line is no script to be read.
+#[derive(Clone, Copy, Debug, PartialEq, Eq)]
+pub enum Refusal {
+    // It isn't hexadecimal, or ends in the middle of a byte, or before the kind.
+    NotHex,
+    // There is no such kind.
+    NoKind,
+    // There are more than 520 script bytes.
+    TooLong,
+}
+
+impl Refusal {
+    // Document 01's number of the refusal.
+    pub fn number(self) -> u32
+        ensures { result ≡ number_of self }
+    {
+        match self {
+            Refusal::NotHex => 23,
+            Refusal::NoKind => 20,
+            Refusal::TooLong => 1,
+        }
+    }
+}
+
+// The value of a hexadecimal digit of either case; nothing for any other byte.
+#[tactic(auto, unfolding(crate::specs::Digits::digit_of))]
+pub fn digit(b: u8) -> Option<u8>
+    ensures value { result ≡ digit_in b }
+    ensures below_16 { IfSome result (λ d. d < 16) }
 {
     match b {
-        b'0'..=b'9' => b - 48,
-        b'a'..=b'f' => b - 87,
-        b'A'..=b'F' => b - 55,
-        _ => 16,
+        b'0'..=b'9' => Some(b - 48),
+        b'a'..=b'f' => Some(b - 87),
+        b'A'..=b'F' => Some(b - 55),
+        _ => None,
     }
 }
 
@@ -46,17 +73,17 @@ pub fn digit(b: u8) -> u8
 fn pair(high: u8, low: u8) -> u8
     ensures { result ≡ (16 * high + low) % 256 }
 {
-    ((16 * (high as u32) + (low as u32)) % 256) as u8
+    ((16 * u32::from(high) + u32::from(low)) % 256) as u8
 }
 
 // One byte more of a line. Nothing is stored past 520 script bytes.
+#[tactic(auto, unfolding(crate::specs::Feeding::step, crate::specs::Feeding::digit_fed))]
 pub fn feed(line: Line, byte: u8, script: &mut [u8; 520]) -> Line
     ensures { fed result script.new ≡ step byte (fed line script.old) }
 {
-    let low = digit(byte);
-    if 15 < low {
+    let Some(low) = digit(byte) else {
         return Line::NotHex;
-    }
+    };
     match line {
         Line::Nothing => Line::HalfKind(low),
         Line::HalfKind(high) => Line::Whole {
@@ -71,12 +98,13 @@ pub fn feed(line: Line, byte: u8, script: &mut [u8; 520]) -> Line
         Line::Half { kind, size, high } => {
             if size < SCRIPT_BYTES {
                 script[size] = pair(high, low);
-                return Line::Whole {
+                Line::Whole {
                     kind,
                     size: size + 1,
-                };
+                }
+            } else {
+                Line::Whole { kind, size: 521 }
             }
-            Line::Whole { kind, size: 521 }
         }
         Line::NotHex => Line::NotHex,
     }
@@ -89,61 +117,36 @@ pub struct Stop {
     pub at: usize,
 }
 
-fn least(a: usize, b: usize) -> usize
-    ensures { result ≡ min a b }
-{
-    if a < b { a } else { b }
-}
-
 // The bytes of an input from `from` on, up to a line feed, which isn't fed, or up to `to` or the input's end.
 pub fn feed_line(line: Line, input: &[u8], from: usize, to: usize, script: &mut [u8; 520]) -> Stop
     ensures { stopped (fed result.line script.new) result.at ≡ line_fed (take to input.now) from (fed line script.old) }
 {
-    let end = least(to, input.len());
+    let end = to.min(input.len());
     let mut read = line;
-    let mut at = from;
-    while at < end {
+    for at in from..end {
         let byte = input[at];
         if byte == b'\n' {
             return Stop { line: read, at };
         }
         read = feed(read, byte, script);
-        at += 1;
     }
+    let at = from.max(end);
     Stop { line: read, at }
 }
 
-fn wide(x: u8) -> u32
-    ensures { result ≡ x }
-{
-    x as u32
-}
-
 // What the line means, once it has ended.
-pub fn end(line: Line) -> Meaning
+#[tactic(auto, unfolding(crate::specs::Feeding::ended))]
+pub fn end(line: Line) -> Result<Script, Refusal>
     ensures { result ≡ ended line }
 {
     match line {
-        Line::Nothing => Meaning::Refused(23),
-        Line::HalfKind(_) => Meaning::Refused(23),
-        Line::Whole { kind, size } => {
-            if 1 < kind {
-                return Meaning::Refused(20);
-            }
-            if SCRIPT_BYTES < size {
-                return Meaning::Refused(1);
-            }
-            Meaning::Script {
-                kind: wide(kind),
-                size,
-            }
-        }
-        Line::Half {
-            kind: _,
-            size: _,
-            high: _,
-        } => Meaning::Refused(23),
-        Line::NotHex => Meaning::Refused(23),
+        Line::Whole { kind, .. } if 1 < kind => Err(Refusal::NoKind),
+        Line::Whole { size, .. } if SCRIPT_BYTES < size => Err(Refusal::TooLong),
+        Line::Whole { kind, size } => Ok(Script {
+            kind: u32::from(kind),
+            size,
+        }),
+        _ => Err(Refusal::NotHex),
     }
 }
 
@@ -151,15 +154,5 @@ pub fn end(line: Line) -> Meaning
 pub fn is_nothing(line: Line) -> bool
     ensures { result ≡ untouched line }
 {
-    match line {
-        Line::Nothing => true,
-        Line::HalfKind(_) => false,
-        Line::Whole { kind: _, size: _ } => false,
-        Line::Half {
-            kind: _,
-            size: _,
-            high: _,
-        } => false,
-        Line::NotHex => false,
-    }
+    matches!(line, Line::Nothing)
 }

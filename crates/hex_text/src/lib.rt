@@ -7,21 +7,13 @@ ghost use Rattle.hex_text.specs.HexText.{Unhexes};
 pub fn unhex(src: &[u8], dst: &mut [u8]) -> usize
     ensures { Unhexes src.now dst.old dst.new result }
 {
-    let mut n = 0;
-    while n < dst.len() {
-        if src.len() - n < n + 2 {
-            break;
-        }
-        let a = hex_line::digit(src[n + n]);
-        let b = hex_line::digit(src[n + n + 1]);
-        if 15 < a {
-            break;
-        }
-        if 15 < b {
-            break;
-        }
-        dst[n] = 16 * a + b;
-        n += 1;
+    let most = dst.len().min(src.len() / 2);
+    for n in 0..most {
+        let (Some(high), Some(low)) = (hex_line::digit(src[2 * n]), hex_line::digit(src[2 * n + 1]))
+        else {
+            return n;
+        };
+        dst[n] = 16 * high + low;
     }
-    n
+    most
 }

@@ -1,14 +1,16 @@
 -- A refused line, and a script that was read: the header and the tables lay out as what the line is answered with. Assumes nothing.
 use mathlib.Core.Path.{◌≡◌, refl, sym, ap, ◌∙◌}
 use mathlib.Core.List.{List}
+use Rattle.std.specs.Prelude.{Result, Ok, Err}
 use Prim.Native.Nat.{ℕ}
 use lib.ListN.{length, take}
 use Rattle.listing.specs.declared.Header.{Header}
 use Rattle.listing.specs.Listing.{listing}
 use Rattle.listing.specs.ListingLaws.{refusal_is_its_header}
 use Rattle.hex_line.specs.declared.Line.{Line}
-use Rattle.hex_line.specs.declared.Meaning.{Meaning}
-use Rattle.hex_line.specs.declared.Meaning.TheVariants as meaning
+use Rattle.hex_line.specs.declared.Script.{Script}
+use Rattle.hex_line.specs.declared.Refusal.{Refusal}
+use Rattle.hex_line.specs.Meant.{number_of}
 use Rattle.hex_line.specs.Feeding.{fed, ended, told, told_of}
 use Rattle.decode.specs.declared.Answer.{Answer}
 use Rattle.decode.specs.Read.{lengths_of, outcome_at}
@@ -18,22 +20,22 @@ use Rattle.reply.specs.Narrow.{narrowed}
 use Rattle.reply.proofs.NarrowLaws.{narrowed_listing}
 
 -- a refused line
-pub refused_text : (line : Line) (buffer nodes keys : List ℕ) (number : ℕ) {m : Meaning} {h : Header} → m ≡ ended line → m ≡ meaning.Refused number → h ≡ refusal_of number
+pub refused_text : (line : Line) (buffer nodes keys : List ℕ) (why : Refusal) {m : Result Script Refusal} {h : Header} → m ≡ ended line → m ≡ Err why → h ≡ refusal_of (number_of why)
     → listing h nodes keys ≡ text_of (told_of (fed line buffer))
-refused_text line buffer nodes keys number {m} {h} e p q =
+refused_text line buffer nodes keys why {m} {h} e p q =
     ap (λ (x : Header). listing x nodes keys) q
-    ∙ refusal_is_its_header (refusal_of number) nodes keys refl refl
-    ∙ ap (λ (x : Meaning). text_of (told x buffer)) (sym p ∙ e)
+    ∙ refusal_is_its_header (refusal_of (number_of why)) nodes keys refl refl
+    ∙ ap (λ (x : Result Script Refusal). text_of (told x buffer)) (sym p ∙ e)
 
 -- a script that was read
-pub read_text : (line : Line) (buffer : List ℕ) (kind size : ℕ) (tokens nodes keys work : List ℕ) (a : Answer) {m : Meaning} {h : Header} → m ≡ ended line
-    → m ≡ meaning.Script kind size → outcome_at a tokens nodes keys work ≡ outcome_of kind (take size buffer) desk_lengths → 4608 ≡ length nodes → 128 ≡ length keys
+pub read_text : (line : Line) (buffer : List ℕ) (s : Script) (tokens nodes keys work : List ℕ) (a : Answer) {m : Result Script Refusal} {h : Header} → m ≡ ended line
+    → m ≡ Ok s → outcome_at a tokens nodes keys work ≡ outcome_of s.kind (take s.size buffer) desk_lengths → 4608 ≡ length nodes → 128 ≡ length keys
     → h ≡ narrowed a → listing h nodes keys ≡ text_of (told_of (fed line buffer))
-read_text line buffer kind size tokens nodes keys work a {m} {h} e p r n k q =
+read_text line buffer s tokens nodes keys work a {m} {h} e p r n k q =
     ap (λ (x : Header). listing x nodes keys) q
-    ∙ narrowed_listing kind (take size buffer) tokens nodes keys work a r n k
+    ∙ narrowed_listing s.kind (take s.size buffer) tokens nodes keys work a r n k
     ∙ ap outcome_text r
-    ∙ ap (λ (x : Meaning). text_of (told x buffer)) (sym p ∙ e)
+    ∙ ap (λ (x : Result Script Refusal). text_of (told x buffer)) (sym p ∙ e)
 
 -- the program's tables have these lengths
 pub read_sized : (kind : ℕ) (bytes tokens nodes keys work : List ℕ) {o : Outcome} → 3120 ≡ length tokens → 4608 ≡ length nodes → 128 ≡ length keys → 1024 ≡ length work

@@ -1,5 +1,5 @@
 -- For the proof: the header of what the reader answers as the program holds it, in numbers of 32 bits. The listing is the same (NarrowLaws).
-use Rattle.std.specs.Prelude.{ℕ, ◌%◌}
+use Rattle.std.specs.Prelude.{◌%◌}
 use Rattle.listing.specs.declared.Header.{Header}
 use Rattle.decode.specs.declared.Answer.{Answer}
 

@@ -4,17 +4,23 @@
 // header that is answered and the tables that are left lay out as exactly the text that Program.antt says.
 #![tactic(auto)]
 
-ghost use Rattle.std.specs.Prelude.{◌≡◌, ◌%◌, ◌≤◌, length, take};
+ghost use Rattle.std.specs.Prelude.{◌≡◌, ◌%◌};
 ghost use Rattle.listing.specs.Listing.{listing};
-ghost use Rattle.standard.specs.Outcome.{outcome_of};
-ghost use Rattle.decode.specs.Read.{lengths_of, outcome_at};
 ghost use Rattle.hex_line.specs.Feeding.{fed, told_of};
 ghost use Rattle.reply.specs.Program.{refusal_of, text_of};
 ghost use Rattle.reply.specs.Narrow.{narrowed};
 
 use decode::Answer;
-use hex_line::{Line, Meaning};
+use hex_line::Line;
 use listing::Header;
+
+// What the reader is lent: 1,040 tokens of three numbers, 512 nodes of nine, 128 keys and 1,024 work entries.
+pub struct Tables {
+    pub tokens: [u32; 3120],
+    pub nodes: [u32; 4608],
+    pub keys: [u32; 128],
+    pub work: [u64; 1024],
+}
 
 // The header of a line that is refused before it is read.
 fn refused(number: u32) -> Header
@@ -31,6 +37,7 @@ fn refused(number: u32) -> Header
     }
 }
 
+// A cast may lose no bits, so those that don't fit are taken off before it.
 fn narrow(x: usize) -> u32
     ensures { result ≡ x % 4294967296 }
 {
@@ -52,39 +59,19 @@ fn answered(a: Answer) -> Header
     }
 }
 
-// The first `size` bytes of the script buffer, read.
-fn read_front(
-    kind: u32,
-    script: &[u8],
-    size: usize,
-    tokens: &mut [u32],
-    nodes: &mut [u32],
-    keys: &mut [u32],
-    work: &mut [u64],
-) -> Answer
-    requires { size ≤ length script.now }
-    ensures { outcome_at result tokens.new nodes.new keys.new work.new ≡ outcome_of kind (take size script.now) (lengths_of tokens.old nodes.old keys.old work.old) }
-{
-    decode::read(kind, &script[..size], tokens, nodes, keys, work)
-}
-
 // A line has ended: it is refused, or its script is read. The header is answered; the nodes and keys of its listing are in the tables.
-pub fn answer(
-    line: Line,
-    script: &[u8; 520],
-    tokens: &mut [u32; 3120],
-    nodes: &mut [u32; 4608],
-    keys: &mut [u32; 128],
-    work: &mut [u64; 1024],
-) -> Header
-    ensures { listing result nodes.new keys.new ≡ text_of (told_of (fed line script.now)) }
+pub fn answer(line: Line, script: &[u8; 520], tables: &mut Tables) -> Header
+    ensures { listing result tables.new.nodes tables.new.keys ≡ text_of (told_of (fed line script.now)) }
 {
-    let meaning = hex_line::end(line);
-    match meaning {
-        Meaning::Refused(number) => refused(number),
-        Meaning::Script { kind, size } => {
-            let a = read_front(kind, script, size, tokens, nodes, keys, work);
-            answered(a)
-        }
+    match hex_line::end(line) {
+        Err(refusal) => refused(refusal.number()),
+        Ok(to_read) => answered(decode::read(
+            to_read.kind,
+            &script[..to_read.size],
+            &mut tables.tokens,
+            &mut tables.nodes,
+            &mut tables.keys,
+            &mut tables.work,
+        )),
     }
 }

@@ -1,5 +1,4 @@
 -- `clerk::lay_out` meets its contract. Line after line (LayingLaws).
-use Prim.Native.Nat.{◌-◌}
 use Rattle.clerk.proofs.LayingLaws.{Laying}
 use Rattle.clerk.proofs.lay_out.Given as goal
 use Rattle.clerk.specs.Owed.{rest_of}
@@ -8,6 +7,3 @@ use mathlib.Core.List.{◌++◌}
 
 abbrev pub invariant-loop-next : goal.invariant-loop-next
 invariant-loop-next l = Laying l.hand.header l.nodes l.keys (take l.used l.initial.out ++ rest_of l.hand.header l.hand.next l.nodes l.keys) l.out l.next l.end
-
-abbrev pub decreases-loop-next : goal.decreases-loop-next
-decreases-loop-next l = l.lines - l.next

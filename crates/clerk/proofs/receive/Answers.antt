@@ -4,4 +4,4 @@ use Rattle.clerk.proofs.receive.Goals as goal
 use native.Mathlib.Omega.{arith}
 
 pub returns : goal.returns
-returns c = last_came c.args.line c.args.n c.args.script.now c.answer-header.new.nodes c.answer-header.new.keys c.answer-header.result (omega (arith, c.if-n-gt0.false)) c.is_nothing.ensures c.if-is_nothing.false c.answer-header.ensures
+returns c = last_came c.args.line c.args.n c.args.script.now c.answer.new.tables.nodes c.answer.new.tables.keys c.answer.result (omega (arith, c.if-n-gt0.false)) c.is_nothing.ensures c.if-is_nothing.false c.answer.ensures

@@ -4,8 +4,8 @@ use Rattle.clerk.proofs.take_line.Goals as goal
 use Rattle.std.proofs.Common.{rules}
 use native.Mathlib.Omega.{arith}
 
-pub returns-then-n-at : goal.returns-then-n-at
-returns-then-n-at c = part_ended c.args.input.now c.args.n c.args.hand c.args.script.now c.args.nodes.now c.args.keys.now c.feed_line-stop.result.line c.feed_line-stop.new.script c.feed_line-stop.result.at 0 (search rules) c.requires.0 c.requires.1.0 c.requires.1.1 c.feed_line-stop.ensures c.if-n-at.true
+pub returns-then-n-stop : goal.returns-then-n-stop
+returns-then-n-stop c = part_ended c.args.input.now c.args.n c.args.hand c.args.script.now c.args.tables.now.nodes c.args.tables.now.keys c.feed_line-stop.result.line c.feed_line-stop.new.script c.feed_line-stop.result.at 0 (search rules) c.requires.0 c.requires.1.0 c.requires.1.1 c.feed_line-stop.ensures c.if-n-stop.true
 
 pub returns : goal.returns
-returns c = line_ended c.args.input.now c.args.n c.args.hand c.args.script.now c.answer-header.new.nodes c.answer-header.new.keys c.feed_line-stop.result.line c.feed_line-stop.new.script c.feed_line-stop.result.at 0 c.answer-header.result (search rules) c.requires.0 c.requires.1.1 c.feed_line-stop.ensures (omega (arith, c.if-n-at.false)) c.answer-header.ensures
+returns c = line_ended c.args.input.now c.args.n c.args.hand c.args.script.now c.answer.new.tables.nodes c.answer.new.tables.keys c.feed_line-stop.result.line c.feed_line-stop.new.script c.feed_line-stop.result.at 0 c.answer.result (search rules) c.requires.0 c.requires.1.1 c.feed_line-stop.ensures (omega (arith, c.if-n-stop.false)) c.answer.ensures

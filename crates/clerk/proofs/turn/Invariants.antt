@@ -8,7 +8,7 @@ use mathlib.Core.List.{◌++◌}
 
 abbrev pub invariant-loop-used : goal.invariant-loop-used
 invariant-loop-used l =
-    Turning (take l.n l.input) l.n (take l.initial.held.used l.initial.out ++ owed l.initial.held (take l.n l.input) l.initial.script l.initial.nodes l.initial.keys) (leaves l.initial.held (take l.n l.input) l.initial.script) l.held l.script l.nodes l.keys l.out
+    Turning (take l.n l.input) l.n (take l.initial.held.used l.initial.out ++ owed l.initial.held (take l.n l.input) l.initial.script l.initial.tables.nodes l.initial.tables.keys) (leaves l.initial.held (take l.n l.input) l.initial.script) l.held l.script l.tables.nodes l.tables.keys l.out
 
 abbrev pub decreases-loop-used : goal.decreases-loop-used
 decreases-loop-used l =

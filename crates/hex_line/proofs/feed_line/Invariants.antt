@@ -1,12 +1,10 @@
 -- `hex_line::feed_line` meets its contract. The loop of FeedLineLaws: what is still to feed comes to what was to feed from the start.
-use Prim.Native.Nat.{◌-◌}
+use Prim.Native.Nat.{◌≤◌, max}
 use Rattle.hex_line.proofs.feed_line.Given as goal
 use Rattle.hex_line.specs.Feeding.{fed, line_fed}
 use lib.ListN.{take}
 use mathlib.Core.Path.{◌≡◌}
 
 abbrev pub invariant-loop-at : goal.invariant-loop-at
-invariant-loop-at l = line_fed (take l.to l.input) l.from (fed l.initial.read l.initial.script) ≡ line_fed (take l.to l.input) l.at (fed l.read l.script)
-
-abbrev pub decreases-loop-at : goal.decreases-loop-at
-decreases-loop-at l = l.end - l.at
+invariant-loop-at l =
+    (line_fed (take l.to l.input) l.from (fed l.initial.read l.initial.script) ≡ line_fed (take l.to l.input) l.at (fed l.read l.script)) × (l.at ≤ max l.from l.end)

@@ -1,2 +1,0 @@
--- Laws that the proofs of the two calls cite.
-pub mod CallLaws
