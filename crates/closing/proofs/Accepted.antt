@@ -7,8 +7,8 @@ use native.Mathlib.Omega.{arith}
 use lib.Dec.{eqb}
 use lib.ListN.{length}
 use Rattle.base_input.specs.Tests.{is_b}
-use Rattle.correctness.specs.declared.Typed.{Typed}
-use Rattle.correctness.specs.declared.Typed.TheVariants.{Is, Not}
+use Rattle.correctness.specs.Typed.{Typed}
+use Rattle.std.specs.Prelude.{Ok, Err}
 use Rattle.tables.specs.Choose.{pick}
 use Rattle.standard.specs.Tree.{Tree, Trees, nil, ◌⊳◌}
 use Rattle.standard.specs.Types.{type_of}
@@ -38,8 +38,8 @@ numbered_nodes segwit material keys (n ∷ ns) ts =
     (λ more. numbered_nodes segwit material keys ns more)
 
 numbered_top : (t : Tree) (o : Typed) → FoundNumbered (top_checked t o)
-numbered_top t (Is c) = found_pick (is_b c.base) (found t) (refused 19 0) tt (omega arith)
-numbered_top t (Not e) = omega arith
+numbered_top t (Ok c) = found_pick (is_b c.base) (found t) (refused 19 0) tt (omega arith)
+numbered_top t (Err e) = omega arith
 
 numbered_root : (segwit : Bool) (odd : ℕ) (c : Checked) → Numbered c → FoundNumbered (root_checked segwit odd c)
 numbered_root segwit odd (checks.refused number reason) p = p

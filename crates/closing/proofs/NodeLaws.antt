@@ -12,8 +12,8 @@ use lib.ListN.{length, drop, length-drop}
 use lib.Seq.{length-take-le}
 use Rattle.correctness.specs.declared.Correctness.{Correctness}
 use Rattle.correctness.specs.declared.Leaf.TheVariants as kind
-use Rattle.correctness.specs.declared.Typed.{Typed}
-use Rattle.correctness.specs.declared.Typed.TheVariants.{Is, Not}
+use Rattle.correctness.specs.Typed.{Typed}
+use Rattle.std.specs.Prelude.{Ok, Err}
 use Rattle.correctness.specs.Rules as rules
 use Rattle.correctness.specs.Rules.{onward, leaf_type, threshold}
 use Rattle.lex.specs.Token.{Data}
@@ -82,16 +82,16 @@ module _ (segwit : Bool) (material keys table : List ℕ) (n : Node) (m : ℕ) w
   abbrev Makes : Option Trees → Typed → Type 0
   Makes o type = (t : Tree) × (us : Trees) × (o ≡ some (t ⊳ us)) × (type ≡ type_of segwit t)
 
-  makes_leaf : (l : Leaf) (ts : Trees) {k : Rattle.correctness.specs.declared.Leaf.Leaf} → leaf_of n.kind ≡ k → Is (leaf_type k) ≡ type_of segwit (leaf l) → Makes (some (leaf l ⊳ ts)) (Is (leaf_type (leaf_of n.kind)))
-  makes_leaf l ts fits e = (leaf l, ts, refl, ap (λ (x : Rattle.correctness.specs.declared.Leaf.Leaf). Is (leaf_type x)) fits ∙ e)
+  makes_leaf : (l : Leaf) (ts : Trees) {k : Rattle.correctness.specs.declared.Leaf.Leaf} → leaf_of n.kind ≡ k → Ok (leaf_type k) ≡ type_of segwit (leaf l) → Makes (some (leaf l ⊳ ts)) (Ok (leaf_type (leaf_of n.kind)))
+  makes_leaf l ts fits e = (leaf l, ts, refl, ap (λ (x : Rattle.correctness.specs.declared.Leaf.Leaf). Ok (leaf_type x)) fits ∙ e)
 
   makes_wrapped : (w : Wrapper) → ((c : Correctness) → cast_of n.kind c ≡ wrapper_rule segwit w c) → (ts : Trees) → RootsAt segwit table m ts → 1 ≤ many ts → Makes (wrap_top w ts) (cast_of n.kind (top_type table m))
   makes_wrapped w fits nil r h = let no : ⊥ = omega arith in absurd no
   makes_wrapped w fits (x ⊳ ts) r h = (wrap w x, ts, refl, fits (top_type table m) ∙ ap (λ (o : Typed). onward o (wrapper_rule segwit w)) (sym r.2))
 
   -- the type of the second newest tree
-  second_type : (x y : Tree) (ts : Trees) → RootsAt segwit table m (x ⊳ (y ⊳ ts)) → type_of segwit y ≡ Is (top_type table (under table m))
-  second_type x y ts r = r.3.2 ∙ ap (λ (k : ℕ). Is (top_type table (m - k))) (sym r.1)
+  second_type : (x y : Tree) (ts : Trees) → RootsAt segwit table m (x ⊳ (y ⊳ ts)) → type_of segwit y ≡ Ok (top_type table (under table m))
+  second_type x y ts r = r.3.2 ∙ ap (λ (k : ℕ). Ok (top_type table (m - k))) (sym r.1)
 
   makes_joined : (j : Combination) → ((a b : Correctness) → combination_of n.kind a b ≡ combination_rule j a b) → (ts : Trees) → RootsAt segwit table m ts → 2 ≤ many ts → Makes (join_top j ts) (pair_held table m n.kind)
   makes_joined j fits nil r h = let no : ⊥ = omega arith in absurd no
@@ -105,11 +105,11 @@ module _ (segwit : Bool) (material keys table : List ℕ) (n : Node) (m : ℕ) w
         ∙ ap (λ (o : Typed). onward o (λ a. onward (type_of segwit y) (λ b. combination_rule j a b))) (sym r.2),
   )
 
-  third_type : (x z y : Tree) (ts : Trees) → RootsAt segwit table m (x ⊳ (z ⊳ (y ⊳ ts))) → type_of segwit y ≡ Is (top_type table (under table (under table m)))
+  third_type : (x z y : Tree) (ts : Trees) → RootsAt segwit table m (x ⊳ (z ⊳ (y ⊳ ts))) → type_of segwit y ≡ Ok (top_type table (under table (under table m)))
   third_type x z y ts r =
       r.3.3.2
-      ∙ ap (λ (k : ℕ). Is (top_type table (m - size x - k))) (sym r.3.1)
-      ∙ ap (λ (k : ℕ). Is (top_type table (under table (m - k)))) (sym r.1)
+      ∙ ap (λ (k : ℕ). Ok (top_type table (m - size x - k))) (sym r.3.1)
+      ∙ ap (λ (k : ℕ). Ok (top_type table (under table (m - k)))) (sym r.1)
 
   makes_and_or : (ts : Trees) → RootsAt segwit table m ts → 3 ≤ many ts → Makes (and_or_top ts) (and_or_held table m)
   makes_and_or nil r h = let no : ⊥ = omega arith in absurd no
@@ -136,7 +136,7 @@ module _ (segwit : Bool) (material keys table : List ℕ) (n : Node) (m : ℕ) w
     sym (ap (λ (a : AllTyped). ruled a threshold) (types_on_trees segwit table (suc c) m (x ⊳ ts) r h)),
   )
 
-  makes_multi_a : (k : ℕ) (ds : List Data) (ts : Trees) → leaf_of n.kind ≡ kind.MultiA → 1 ≤ length ds → Makes (multi_a_of k ds ts) (Is (leaf_type (leaf_of n.kind)))
+  makes_multi_a : (k : ℕ) (ds : List Data) (ts : Trees) → leaf_of n.kind ≡ kind.MultiA → 1 ≤ length ds → Makes (multi_a_of k ds ts) (Ok (leaf_type (leaf_of n.kind)))
   makes_multi_a k [] ts fits h = let no : ⊥ = omega arith in absurd no
   makes_multi_a k (d ∷ ds) ts fits h = makes_leaf (MultiA k d ds) ts fits refl
 
@@ -198,8 +198,8 @@ verdict_for (finished ts) = verdict 0 0
 verdict_for (refused number reason) = verdict number reason
 
 type_told : (n : Node) (ts : Trees) (o : Typed) → judged_held n o ≡ verdict_for (type_checked n ts o)
-type_told n ts (Not e) = refl
-type_told n ts (Is c) = by (holds_type n c)
+type_told n ts (Err e) = refl
+type_told n ts (Ok c) = by (holds_type n c)
   where
     by : (b : Bool) → pick b (verdict 0 0) (verdict 14 13) ≡ verdict_for (pick b (finished ts) (refused 14 13))
     by true = refl
@@ -265,8 +265,8 @@ numbered_pick true x y p q = p
 numbered_pick false x y p q = q
 
 numbered_type : (n : Node) (ts : Trees) (o : Typed) → Numbered (type_checked n ts o)
-numbered_type n ts (Is c) = numbered_pick (holds_type n c) (finished ts) (refused 14 13) tt (omega arith)
-numbered_type n ts (Not e) = omega arith
+numbered_type n ts (Ok c) = numbered_pick (holds_type n c) (finished ts) (refused 14 13) tt (omega arith)
+numbered_type n ts (Err e) = omega arith
 
 numbered_newest : (segwit : Bool) (n : Node) (o : Option Trees) → Numbered (newest_checked segwit n o)
 numbered_newest segwit n none = omega arith

@@ -8,8 +8,8 @@ use native.Mathlib.Omega.{arith}
 use borrow.Author.Tests.{le-leb, lt-leb, leb-true, leb-false, lt-ltb, le-ltb}
 use lib.Dec.{eqb, leb}
 use lib.ListN.{drop}
-use Rattle.correctness.specs.declared.Typed.{Typed}
-use Rattle.correctness.specs.declared.Typed.TheVariants.{Is}
+use Rattle.correctness.specs.Typed.{Typed}
+use Rattle.std.specs.Prelude.{Ok}
 use Rattle.tables.specs.Choose.{pick}
 use Rattle.tables.specs.Tables.{newest}
 use Rattle.tables.proofs.NewestLaws.{newest_length, newest_drop}
@@ -38,7 +38,7 @@ rest_trees (suc k) (t ⊳ ts) = rest_trees k ts
 -- Where the roots are
 
 module _ (segwit : Bool) (material keys : List ℕ) where
-  top_passed : {ns : List Node} {ts : Trees} → Stands segwit material keys ns ts → (t : Tree) (us : Trees) → ts ≡ t ⊳ us → ((top_node ns).size ≡ size t) × (type_of segwit t ≡ Is (held_type (top_node ns)))
+  top_passed : {ns : List Node} {ts : Trees} → Stands segwit material keys ns ts → (t : Tree) (us : Trees) → ts ≡ t ⊳ us → ((top_node ns).size ≡ size t) × (type_of segwit t ≡ Ok (held_type (top_node ns)))
   top_passed empty t us e = let z : 0 ≡ suc (many us) = ap many e in let no : ⊥ = omega arith in absurd no
   top_passed (more {n} {ns} {ts} {us} {t} s p) x rest e =
       let same : t ≡ x = cc in
@@ -57,7 +57,7 @@ module _ (segwit : Bool) (material keys : List ℕ) where
       (stands_under segwit material keys s (t ⊳ nil) ts refl) in (
         omega (arith, l),
         sym (ap (λ (n : Node). n.size) top) ∙ p.0,
-        p.1 ∙ ap (λ (n : Node). Is (held_type n)) top,
+        p.1 ∙ ap (λ (n : Node). Ok (held_type n)) top,
         stands_roots table (m - size t) ts rest,
       )
 
@@ -116,5 +116,5 @@ module _ (segwit : Bool) (table : List ℕ) where
   types_on_trees (suc k) m nil r h = let no : ⊥ = omega arith in absurd no
   types_on_trees (suc k) m (t ⊳ ts) r h =
       ap (λ (o : Typed). and_then o (types_of segwit (first_trees k ts))) r.2
-      ∙ ap (and_then (Is (top_type table m))) (types_on_trees k (m - size t) ts r.3 (omega arith))
+      ∙ ap (and_then (Ok (top_type table m))) (types_on_trees k (m - size t) ts r.3 (omega arith))
       ∙ ap (λ (j : ℕ). all (top_type table m ∷ types_held table k (m - j))) (sym r.1)

@@ -9,8 +9,8 @@ use borrow.Author.Tests.{lt-ltb, le-ltb, eq-eqb, ne_eqb}
 use lib.Dec.{eqb}
 use lib.ListN.{length}
 use Rattle.base_input.specs.Tests.{is_b}
-use Rattle.correctness.specs.declared.Typed.{Typed}
-use Rattle.correctness.specs.declared.Typed.TheVariants.{Is}
+use Rattle.correctness.specs.Typed.{Typed}
+use Rattle.std.specs.Prelude.{Ok}
 use Rattle.tables.specs.Choose.{pick}
 use Rattle.tables.specs.Tables.{newest}
 use Rattle.standard.specs.Tree.{Tree, Trees, nil, ◌⊳◌}
@@ -41,7 +41,7 @@ module _ (segwit : Bool) (table : List ℕ) where
   base_told_lem t true = refl
   base_told_lem t false = refl
 
-  odd_told_lem : (t : Tree) → type_of segwit t ≡ Is (top_type table n) → (b : Bool) → pick b (base_told table) (verdict 21 0) ≡ verdict_on (pick b (top_checked t (type_of segwit t)) (refused 21 0))
+  odd_told_lem : (t : Tree) → type_of segwit t ≡ Ok (top_type table n) → (b : Bool) → pick b (base_told table) (verdict 21 0) ≡ verdict_on (pick b (top_checked t (type_of segwit t)) (refused 21 0))
   odd_told_lem t e true = base_told_lem t (is_b (top_type table n).base) ∙ sym (ap (λ (o : Typed). verdict_on (top_checked t o)) e)
   odd_told_lem t e false = refl
 

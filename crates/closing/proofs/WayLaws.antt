@@ -11,8 +11,8 @@ use Rattle.base_input.specs.Tests.{is_b}
 use Rattle.correctness.specs.declared.Correctness.{Correctness}
 use Rattle.correctness.specs.declared.ErrorKind.{ErrorKind}
 use Rattle.correctness.specs.declared.Leaf.{Leaf}
-use Rattle.correctness.specs.declared.Typed.{Typed}
-use Rattle.correctness.specs.declared.Typed.TheVariants.{Is, Not}
+use Rattle.correctness.specs.Typed.{Typed}
+use Rattle.std.specs.Prelude.{Ok, Err}
 use Rattle.correctness.specs.Rules.{leaf_type, no_children, threshold_child, threshold_from, threshold, onward}
 use Rattle.tables.specs.Choose.{pick}
 use Rattle.standard.specs.Tree.{Trees, nil, ◌⊳◌}
@@ -89,10 +89,10 @@ module _ (t : List ℕ) (m n : ℕ) where
           ∙ sym (ap (λ (k : ℕ). threshold_from i earlier (types_held t k at)) (one_more n i more))
           ∙ h.same
 
-      pub child_refused : {e : ErrorKind} → answer ≡ Not e → answer ≡ threshold (types_held t n m)
+      pub child_refused : {e : ErrorKind} → answer ≡ Err e → answer ≡ threshold (types_held t n m)
       child_refused p = p ∙ sym (ap (λ (a : Typed). onward a (λ next. threshold_from (i + 1) next (types_held t (n - (i + 1)) (under t at)))) p) ∙ child_judged
 
-      pub threshing_again : {next : Correctness} {s : ℕ} → answer ≡ Is next → s ≡ size_at t (at - 1) → Threshing t m n next (at - s) (i + 1)
+      pub threshing_again : {next : Correctness} {s : ℕ} → answer ≡ Ok next → s ≡ size_at t (at - 1) → Threshing t m n next (at - s) (i + 1)
       threshing_again {next} {s} p q =
           let inside : at ≤ m = h.inside in
           record {
@@ -105,7 +105,7 @@ module _ (t : List ℕ) (m n : ℕ) where
                 ∙ child_judged;
           }
 
-    pub thresh_typed : n ≤ i → Is earlier ≡ threshold (types_held t n m)
+    pub thresh_typed : n ≤ i → Ok earlier ≡ threshold (types_held t n m)
     thresh_typed most = let z : n - i ≡ 0 = omega arith in sym (ap (λ (k : ℕ). threshold_from i earlier (types_held t k at)) z) ∙ h.same
 
 -- The type of a node, by its shape
@@ -116,7 +116,7 @@ module _ (s : Shape) (n : Node) (t : List ℕ) (m : ℕ) where
       pick (eqb k 1) (cast_of n.kind (top_type t m))
       (pick (eqb k 2) (pair_held t m n.kind)
       (pick (eqb k 3) (and_or_held t m)
-      (Is (leaf_type (leaf_of n.kind)))))
+      (Ok (leaf_type (leaf_of n.kind)))))
 
   pub counts : {r : Typed} → s.counts_children ≡ true → r ≡ threshold (types_held t n.count m) → r ≡ type_held s n t m
   unfolding type_held
@@ -136,11 +136,11 @@ module _ (s : Shape) (n : Node) (t : List ℕ) (m : ℕ) where
   pub has_three : {r : Typed} → s.counts_children ≡ false → s.children ≡ 3 → r ≡ and_or_held t m → r ≡ type_held s n t m
   has_three h c e = has 3 h c e
 
-  pub has_none : {l : Leaf} {c : Correctness} → s.counts_children ≡ false → (s.children ≡ 1 → ⊥) → (s.children ≡ 2 → ⊥) → (s.children ≡ 3 → ⊥) → l ≡ leaf_of n.kind → c ≡ leaf_type l → Is c ≡ type_held s n t m
+  pub has_none : {l : Leaf} {c : Correctness} → s.counts_children ≡ false → (s.children ≡ 1 → ⊥) → (s.children ≡ 2 → ⊥) → (s.children ≡ 3 → ⊥) → l ≡ leaf_of n.kind → c ≡ leaf_type l → Ok c ≡ type_held s n t m
   has_none h a b d p q =
       has s.children h refl
-      (ap Is (q ∙ ap leaf_type p)
-      ∙ second (eqb s.children 3) (and_or_held t m) (Is (leaf_type (leaf_of n.kind))) refl (ne_eqb s.children 3 d)
+      (ap Ok (q ∙ ap leaf_type p)
+      ∙ second (eqb s.children 3) (and_or_held t m) (Ok (leaf_type (leaf_of n.kind))) refl (ne_eqb s.children 3 d)
       ∙ second (eqb s.children 2) (pair_held t m n.kind) _ refl (ne_eqb s.children 2 b)
       ∙ second (eqb s.children 1) (cast_of n.kind (top_type t m)) _ refl (ne_eqb s.children 1 a))
 

@@ -3,8 +3,8 @@ use Rattle.std.specs.Prelude.{◌≡◌, Bool, false, ◌&&◌, List, [], ◌∷
 use Rattle.std.proofs.Math.Option.{Option, none, some}
 use Rattle.base_input.specs.Tests.{is_b}
 use Rattle.correctness.specs.declared.Correctness.{Correctness}
-use Rattle.correctness.specs.declared.Typed.{Typed}
-use Rattle.correctness.specs.declared.Typed.TheVariants.{Is, Not}
+use Rattle.correctness.specs.Typed.{Typed}
+use Rattle.std.specs.Prelude.{Ok, Err}
 use Rattle.correctness.specs.Reasons.{reason_of}
 use Rattle.correctness.specs.Rules.{leaf_type, and_or, threshold}
 use Rattle.tables.specs.Choose.{pick}
@@ -23,7 +23,7 @@ use Rattle.closing.specs.Verdicts.{Verdict, verdict}
 abbrev pub RootsAt : Bool → List ℕ → ℕ → Trees → Type 0
 RootsAt segwit table m nil = m ≡ 0
 RootsAt segwit table m (t ⊳ ts) =
-    (size t ≤ m) × (size_at table (m - 1) ≡ size t) × (type_of segwit t ≡ Is (held_type (node_at table (m - 1)))) × RootsAt segwit table (m - size t) ts
+    (size t ≤ m) × (size_at table (m - 1) ≡ size t) × (type_of segwit t ≡ Ok (held_type (node_at table (m - 1)))) × RootsAt segwit table (m - size t) ts
 
 -- of some trees
 pub record Rooted (table : List ℕ) (m : ℕ) : Type 0 where
@@ -60,7 +60,7 @@ type_held s n table m =
     (pick (eqb s.children 1) (cast_of n.kind (top_type table m))
     (pick (eqb s.children 2) (pair_held table m n.kind)
     (pick (eqb s.children 3) (and_or_held table m)
-    (Is (leaf_type (leaf_of n.kind))))))
+    (Ok (leaf_type (leaf_of n.kind))))))
 
 -- the node's children are there
 abbrev pub Children : Shape → Node → List ℕ → ℕ → Type 0
@@ -70,8 +70,8 @@ abbrev pub formed_held : ℕ → List ℕ → Shape → Node → List ℕ → �
 formed_held material keys s n table m = unused_are_zero s n && (in_range material keys s n && fits_from table (child_count s n) m m n.size)
 
 abbrev pub judged_held : Node → Typed → Verdict
-judged_held n (Is c) = pick (holds_type n c) (verdict 0 0) (verdict 14 13)
-judged_held n (Not e) = verdict 14 (reason_of e)
+judged_held n (Ok c) = pick (holds_type n c) (verdict 0 0) (verdict 14 13)
+judged_held n (Err e) = verdict 14 (reason_of e)
 
 abbrev pub value_held : ℕ → Verdict → Verdict
 value_held zero next = next

@@ -14,7 +14,7 @@ ghost use Rattle.closing.specs.declared.Refusal.TheVariants.{Value};
 ghost use Rattle.closing.specs.Verdicts.{refusal_verdict, verdict_told, verdict_on};
 ghost use Rattle.closing.specs.Held.{Rooted, fits_from, types_held, pair_held, and_or_held, type_held, Children, formed_held, judged_held, check_held, root_held};
 
-use correctness::{Correctness, Typed};
+use correctness::{Correctness, ErrorKind};
 use judge::{Node, cast, combine, leaf_of, reason, size_at, type_at};
 use node_shape::{
     Shape, ValueError, child_count, in_range, shape_of, unused_are_zero, value_refusal,
@@ -112,7 +112,7 @@ fn well_formed(s: Shape, n: Node, nodes: &[u32], m: usize, keys: &[u32], materia
 }
 
 // The type of a combination of the two newest trees.
-fn pair_type(nodes: &[u32], m: usize, kind: u32) -> Typed
+fn pair_type(nodes: &[u32], m: usize, kind: u32) -> Result<Correctness, ErrorKind>
     requires m_in_bounds { 9 * m ≤ length nodes.now }
     requires subtrees { Subtrees 2 m nodes.now }
     ensures { result ≡ pair_held nodes.now m kind }
@@ -123,7 +123,7 @@ fn pair_type(nodes: &[u32], m: usize, kind: u32) -> Typed
 }
 
 // The type of an and_or of the three newest trees, whose script order is X, Z, Y.
-fn and_or_type(nodes: &[u32], m: usize) -> Typed
+fn and_or_type(nodes: &[u32], m: usize) -> Result<Correctness, ErrorKind>
     requires m_in_bounds { 9 * m ≤ length nodes.now }
     requires subtrees { Subtrees 3 m nodes.now }
     ensures { result ≡ and_or_held nodes.now m }
@@ -140,7 +140,7 @@ fn and_or_type(nodes: &[u32], m: usize) -> Typed
 }
 
 // The type of a thresh of the n newest trees, child by child.
-fn thresh_type(nodes: &[u32], m: usize, n: u32) -> Typed
+fn thresh_type(nodes: &[u32], m: usize, n: u32) -> Result<Correctness, ErrorKind>
     requires m_in_bounds { 9 * m ≤ length nodes.now }
     requires subtrees { Subtrees n m nodes.now }
     ensures { result ≡ threshold (types_held nodes.now n m) }
@@ -150,17 +150,17 @@ fn thresh_type(nodes: &[u32], m: usize, n: u32) -> Typed
     for i in 0..n {
         let child = at - 1;
         let answer = Correctness::threshold_child(i, earlier, type_at(nodes, child));
-        let Typed::Is(next) = answer else {
+        let Ok(next) = answer else {
             return answer;
         };
         earlier = next;
         at -= size_at(nodes, child) as usize;
     }
-    Typed::Is(earlier)
+    Ok(earlier)
 }
 
 // The type of the node's tree, by the rule of its kind.
-fn type_of_node(s: Shape, n: Node, nodes: &[u32], m: usize) -> Typed
+fn type_of_node(s: Shape, n: Node, nodes: &[u32], m: usize) -> Result<Correctness, ErrorKind>
     requires m_in_bounds { 9 * m ≤ length nodes.now }
     requires children { Children (shape_held s) (node_of n) nodes.now m }
     ensures { result ≡ type_held (shape_held s) (node_of n) nodes.now m }
@@ -172,7 +172,7 @@ fn type_of_node(s: Shape, n: Node, nodes: &[u32], m: usize) -> Typed
         1 => cast(n.kind, type_at(nodes, m - 1)),
         2 => pair_type(nodes, m, n.kind),
         3 => and_or_type(nodes, m),
-        _ => Typed::Is(Correctness::leaf_type(leaf_of(n.kind))),
+        _ => Ok(Correctness::leaf_type(leaf_of(n.kind))),
     }
 }
 
@@ -193,7 +193,7 @@ fn judged(s: Shape, n: Node, nodes: &[u32], m: usize) -> Result<(), Refusal>
     ensures { verdict_told result ≡ judged_held (node_of n) (type_held (shape_held s) (node_of n) nodes.now m) }
 {
     let answer = type_of_node(s, n, nodes, m);
-    let Typed::Is(ty) = answer else {
+    let Ok(ty) = answer else {
         return Err(Refusal::WrongType(reason(answer)));
     };
     if !holds_type(n, ty) {

@@ -11,8 +11,8 @@ use Rattle.base_input.specs.Numbers.{base_number, input_number, bool_number, bas
 use Rattle.correctness.specs.declared.Correctness.{Correctness}
 use Rattle.correctness.specs.declared.ErrorKind.{ErrorKind}
 use Rattle.correctness.specs.declared.Leaf.{Leaf}
-use Rattle.correctness.specs.declared.Typed.{Typed}
-use Rattle.correctness.specs.declared.Typed.TheVariants.{Is, Not}
+use Rattle.correctness.specs.Typed.{Typed}
+use Rattle.std.specs.Prelude.{Ok, Err}
 use Rattle.correctness.specs.Reasons.{reason}
 use Rattle.correctness.specs.Rules.{leaf_type, and_or}
 use Rattle.correctness.specs.Rules as rules
@@ -24,16 +24,16 @@ use Rattle.judge.specs.NodeTableLaws.{top_read, under_read}
 -- Answers
 
 -- a rule that refuses
-pub refused : (answer : Typed) (next : Correctness → Making) {e : ErrorKind} {r : ℕ} → answer ≡ Not e → r ≡ reason answer → refuses r ≡ making answer next
+pub refused : (answer : Typed) (next : Correctness → Making) {e : ErrorKind} {r : ℕ} → answer ≡ Err e → r ≡ reason answer → refuses r ≡ making answer next
 refused answer next e r = ap refuses (r ∙ ap reason e) ∙ sym (ap (λ (a : Typed). making a next) e)
 
 -- a rule that gives a type
-pub given_type : (answer : Typed) (next : Correctness → Making) {c : Correctness} {x : Making} → answer ≡ Is c → x ≡ next c → x ≡ making answer next
+pub given_type : (answer : Typed) (next : Correctness → Making) {c : Correctness} {x : Making} → answer ≡ Ok c → x ≡ next c → x ≡ making answer next
 given_type answer next e h = h ∙ sym (ap (λ (a : Typed). making a next) e)
 
 -- the type in four numbers
 pub typed_numbers : (kind number count place size : ℕ) (c : Correctness) {b i d u : ℕ} → b ≡ base_number c.base → i ≡ input_number c.input → d ≡ bool_number c.dissatisfiable → u ≡ bool_number c.unit
-    → ◌≡◌ {A = Node} (record { kind = kind; number = number; count = count; place = place; size = size; base = b; input = i; d = d; u = u }) (node kind number count place size (Is c))
+    → ◌≡◌ {A = Node} (record { kind = kind; number = number; count = count; place = place; size = size; base = b; input = i; d = d; u = u }) (node kind number count place size (Ok c))
 typed_numbers kind number count place size c {b} {i} {d} {u} p q r s =
     let n : ℕ → ℕ → ℕ → ℕ → Node = λ b i d u. record { kind = kind; number = number; count = count; place = place; size = size; base = b; input = i; d = d; u = u } in
     ap (λ (x : ℕ). n x i d u) p
@@ -48,9 +48,9 @@ held_numbers b i d u {x} {y} e f =
     ap (λ (z : Base). rules.made z y (bool_of d) (bool_of u)) e ∙ ap (λ (z : Input). rules.made (base_of b) z (bool_of d) (bool_of u)) f
 
 -- a leaf's type, by its kind
-pub leaf_is : (kind number count place : ℕ) {l : Leaf} {c : Correctness} {n : Node} → l ≡ leaf_of kind → c ≡ leaf_type l → n ≡ node kind number count place 1 (Is c) → n ≡ new_leaf kind number count place
+pub leaf_is : (kind number count place : ℕ) {l : Leaf} {c : Correctness} {n : Node} → l ≡ leaf_of kind → c ≡ leaf_type l → n ≡ node kind number count place 1 (Ok c) → n ≡ new_leaf kind number count place
 unfolding new_leaf
-leaf_is kind number count place p q h = h ∙ ap (λ (x : Correctness). node kind number count place 1 (Is x)) (q ∙ ap leaf_type p)
+leaf_is kind number count place p q h = h ∙ ap (λ (x : Correctness). node kind number count place 1 (Ok x)) (q ∙ ap leaf_type p)
 
 -- The list of nodes, read off the table
 
@@ -69,10 +69,10 @@ module _ (kind m : ℕ) (t : List ℕ) {x : Correctness} {answer : Typed} (some 
       ap (λ (a : Typed). making a (parent kind 0 0 (size_at t (m - 1) + 1))) (judged ∙ ap (cast_of kind) x-is)
       ∙ ap (λ (n : Node). making (cast_of kind (held_type n)) (parent kind 0 0 (n.size + 1))) (sym (top_read t m some))
 
-  pub one_refused : {e : ErrorKind} {r : ℕ} → answer ≡ Not e → r ≡ reason answer → refuses r ≡ reduce_one kind (newest (node_at t) m)
+  pub one_refused : {e : ErrorKind} {r : ℕ} → answer ≡ Err e → r ≡ reason answer → refuses r ≡ reduce_one kind (newest (node_at t) m)
   one_refused p q = refused answer _ p q ∙ one_child
 
-  pub one_made : {c : Correctness} {s : ℕ} {n : Node} → answer ≡ Is c → s ≡ size_at t (m - 1) → n ≡ node kind 0 0 0 (s + 1) (Is c) → makes n ≡ reduce_one kind (newest (node_at t) m)
+  pub one_made : {c : Correctness} {s : ℕ} {n : Node} → answer ≡ Ok c → s ≡ size_at t (m - 1) → n ≡ node kind 0 0 0 (s + 1) (Ok c) → makes n ≡ reduce_one kind (newest (node_at t) m)
   one_made {c} p q h = given_type answer _ p (ap makes h ∙ ap (λ (k : ℕ). parent kind 0 0 (k + 1) c) q) ∙ one_child
 
 -- two children: the second is the newest of what lies under the first
@@ -94,10 +94,10 @@ module _ (m : ℕ) (t : List ℕ) {p : ℕ} (below : p < m) (p-is : p ≡ size_a
         ∙ ap (λ (n : Node). making (combination_of kind (held_type n) (held_type (top_node (under_top (newest (node_at t) m))))) (parent kind 0 0 (n.size + (top_node (under_top (newest (node_at t) m))).size + 1)))
         (sym (top_read t m (omega arith)))
 
-    pub two_refused : {e : ErrorKind} {r : ℕ} → answer ≡ Not e → r ≡ reason answer → refuses r ≡ reduce_two kind (newest (node_at t) m)
+    pub two_refused : {e : ErrorKind} {r : ℕ} → answer ≡ Err e → r ≡ reason answer → refuses r ≡ reduce_two kind (newest (node_at t) m)
     two_refused f g = refused answer _ f g ∙ two_children
 
-    pub two_made : {c : Correctness} {q : ℕ} {n : Node} → answer ≡ Is c → q ≡ size_at t (m - 1 - p) → n ≡ node kind 0 0 0 (p + q + 1) (Is c) → makes n ≡ reduce_two kind (newest (node_at t) m)
+    pub two_made : {c : Correctness} {q : ℕ} {n : Node} → answer ≡ Ok c → q ≡ size_at t (m - 1 - p) → n ≡ node kind 0 0 0 (p + q + 1) (Ok c) → makes n ≡ reduce_two kind (newest (node_at t) m)
     two_made {c} f g h = given_type answer _ f (ap makes h ∙ ap (λ (k : ℕ). parent kind 0 0 (p + k + 1) c) g) ∙ two_children
 
   -- three children, in script order X, Z, Y
@@ -128,10 +128,10 @@ module _ (m : ℕ) (t : List ℕ) {p : ℕ} (below : p < m) (p-is : p ≡ size_a
           ∙ ap (λ (n : Node). made_of (top_node (newest (node_at t) m)) y-node n) (sym second_read)
           ∙ ap (λ (n : Node). made_of (top_node (newest (node_at t) m)) n (top_node (under_top (newest (node_at t) m)))) (sym third_read)
 
-      pub three_refused : {e : ErrorKind} {r : ℕ} → answer ≡ Not e → r ≡ reason answer → refuses r ≡ reduce_three (newest (node_at t) m)
+      pub three_refused : {e : ErrorKind} {r : ℕ} → answer ≡ Err e → r ≡ reason answer → refuses r ≡ reduce_three (newest (node_at t) m)
       three_refused f g = refused answer _ f g ∙ three_children_lem
 
-      pub three_made : {c : Correctness} {s : ℕ} {n : Node} → answer ≡ Is c → s ≡ size_at t (m - 1 - p - q) → n ≡ node and_or_kind 0 0 0 (p + s + q + 1) (Is c) → makes n ≡ reduce_three (newest (node_at t) m)
+      pub three_made : {c : Correctness} {s : ℕ} {n : Node} → answer ≡ Ok c → s ≡ size_at t (m - 1 - p - q) → n ≡ node and_or_kind 0 0 0 (p + s + q + 1) (Ok c) → makes n ≡ reduce_three (newest (node_at t) m)
       three_made {c} f g h = given_type answer _ f (ap makes h ∙ ap (λ (k : ℕ). parent and_or_kind 0 0 (p + k + q + 1) c) g) ∙ three_children_lem
 
 -- What is required, in the code's own indices

@@ -6,8 +6,8 @@ use native.Mathlib.Omega.{arith}
 use Rattle.tables.specs.Tables.{newest}
 use Rattle.correctness.specs.declared.Correctness.{Correctness}
 use Rattle.correctness.specs.declared.ErrorKind.{ErrorKind}
-use Rattle.correctness.specs.declared.Typed.{Typed}
-use Rattle.correctness.specs.declared.Typed.TheVariants.{Is, Not}
+use Rattle.correctness.specs.Typed.{Typed}
+use Rattle.std.specs.Prelude.{Ok, Err}
 use Rattle.correctness.specs.Reasons.{reason}
 use Rattle.correctness.specs.Rules.{no_children, threshold_child}
 use Rattle.standard.specs.Table.{Node, node, thresh_kind}
@@ -52,10 +52,10 @@ module _ (t : List ℕ) (m k n : ℕ) where
           ∙ ap (λ (j : ℕ). reduce_children k n j i earlier size (newest (node_at t) at)) (sym (one_more n i more))
           ∙ h.same
 
-      pub child_refused : {e : ErrorKind} {r : ℕ} → answer ≡ Not e → r ≡ reason answer → refuses r ≡ reduce_many k n (newest (node_at t) m)
+      pub child_refused : {e : ErrorKind} {r : ℕ} → answer ≡ Err e → r ≡ reason answer → refuses r ≡ reduce_many k n (newest (node_at t) m)
       child_refused p q = refused answer _ p q ∙ child_judged
 
-      pub again : {next : Correctness} {s : ℕ} → answer ≡ Is next → s ≡ size_at t (at - 1) → Threshing t m k n next (at - s) (size + s) (i + 1)
+      pub again : {next : Correctness} {s : ℕ} → answer ≡ Ok next → s ≡ size_at t (at - 1) → Threshing t m k n next (at - s) (size + s) (i + 1)
       again {next} {s} p q =
           let inside : size + at ≤ m = h.inside in
           let below : size_at t (at - 1) ≤ at = (child_there more).2 in
@@ -69,7 +69,7 @@ module _ (t : List ℕ) (m k n : ℕ) where
                 ∙ child_judged;
           }
 
-    pub ended : {x : Node} → n ≤ i → x ≡ node thresh_kind k n 0 (size + 1) (Is earlier) → makes x ≡ reduce_many k n (newest (node_at t) m)
+    pub ended : {x : Node} → n ≤ i → x ≡ node thresh_kind k n 0 (size + 1) (Ok earlier) → makes x ≡ reduce_many k n (newest (node_at t) m)
     ended most e =
         let z : n - i ≡ 0 = omega arith in
         ap makes e ∙ sym (ap (λ (j : ℕ). reduce_children k n j i earlier size (newest (node_at t) at)) z) ∙ h.same

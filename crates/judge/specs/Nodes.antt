@@ -5,8 +5,8 @@ use Rattle.base_input.specs.Numbers.{base_of, input_of, bool_of}
 use Rattle.correctness.specs.declared.Correctness.{Correctness}
 use Rattle.correctness.specs.declared.Leaf.{Leaf}
 use Rattle.correctness.specs.declared.Leaf.TheVariants as leaf
-use Rattle.correctness.specs.declared.Typed.{Typed}
-use Rattle.correctness.specs.declared.Typed.TheVariants.{Is, Not}
+use Rattle.correctness.specs.Typed.{Typed}
+use Rattle.std.specs.Prelude.{Ok, Err}
 use Rattle.correctness.specs.Reasons.{reason_of}
 use Rattle.correctness.specs.Rules.{made, leaf_type, cast_alt, cast_swap, cast_check, cast_dupif, cast_verify, cast_nonzero, cast_zeronotequal, and_v, and_b, or_b, or_d, or_c, or_i, and_or, no_children, threshold_child}
 use Rattle.standard.specs.Table.{Node, node, and_or_kind, thresh_kind}
@@ -75,16 +75,16 @@ pub data Making : Type 0 where
 
 -- what is made of a rule's answer: a refusal stays as it is
 abbrev pub making : Typed → (Correctness → Making) → Making
-making (Is c) next = next c
-making (Not e) next = refuses (reason_of e)
+making (Ok c) next = next c
+making (Err e) next = refuses (reason_of e)
 
 -- a node of this kind, k, count of children, size and type; a node with children has no place
 abbrev pub parent : ℕ → ℕ → ℕ → ℕ → Correctness → Making
-parent kind number count size c = makes (node kind number count 0 size (Is c))
+parent kind number count size c = makes (node kind number count 0 size (Ok c))
 
 -- a leaf of this kind, locktime or k, count of keys and place
 unfoldable pub new_leaf : ℕ → ℕ → ℕ → ℕ → Node
-new_leaf kind number count place = node kind number count place 1 (Is (leaf_type (leaf_of kind)))
+new_leaf kind number count place = node kind number count place 1 (Ok (leaf_type (leaf_of kind)))
 
 -- one child
 unfoldable pub reduce_one : ℕ → List Node → Making

@@ -5,13 +5,12 @@
 
 ghost use Rattle.std.specs.Prelude.{◌≡◌, ◌+◌, ◌*◌, ◌<◌, length};
 ghost use Rattle.tables.specs.Tables.{newest};
-ghost use Rattle.correctness.specs.declared.Typed.TheVariants as typed;
 ghost use Rattle.correctness.specs.Reasons as reasons;
 ghost use Rattle.standard.specs.Table as standard;
 ghost use Rattle.judge.specs.Nodes.{held_type, leaf_of, new_leaf, cast_of, combination_of, reduce_one, reduce_two, reduce_three, reduce_many};
 ghost use Rattle.judge.specs.NodeTable.{node_at, size_at, Finished, node_of, making_of};
 
-use correctness::{Base, Correctness, Input, Leaf, Typed};
+use correctness::{Base, Correctness, ErrorKind, Input, Leaf};
 
 // A node before it is put into the table: 01's nine numbers. Laid out as in C, for callers who lend a table of such records.
 #[repr(C)]
@@ -30,7 +29,7 @@ pub struct Node {
 
 // A node of this type; "a yes is 1".
 fn typed(kind: u32, number: u32, count: u32, place: u32, size: u32, ty: Correctness) -> Node
-    ensures { node_of result ≡ standard.node kind number count place size (typed.Is ty) }
+    ensures { node_of result ≡ standard.node kind number count place size (Ok ty) }
 {
     Node {
         kind,
@@ -97,7 +96,7 @@ pub fn size_at(nodes: &[u32], i: usize) -> u32
 
 // The rule of a kind with one child, in place of the closure that decode.rs gives to its `reduce1`. n: is 18.
 #[tactic(auto, unfolding(crate::specs::Nodes::cast_of))]
-pub fn cast(kind: u32, x: Correctness) -> Typed
+pub fn cast(kind: u32, x: Correctness) -> Result<Correctness, ErrorKind>
     ensures { result ≡ cast_of kind x }
 {
     match kind {
@@ -113,7 +112,7 @@ pub fn cast(kind: u32, x: Correctness) -> Typed
 
 // The rule of a kind with two children. or_i is 25.
 #[tactic(auto, unfolding(crate::specs::Nodes::combination_of))]
-pub fn combine(kind: u32, x: Correctness, y: Correctness) -> Typed
+pub fn combine(kind: u32, x: Correctness, y: Correctness) -> Result<Correctness, ErrorKind>
     ensures { result ≡ combination_of kind x y }
 {
     match kind {
@@ -127,12 +126,12 @@ pub fn combine(kind: u32, x: Correctness, y: Correctness) -> Typed
 }
 
 // Why a rule refuses, as 01's reason.
-pub fn reason(answer: Typed) -> u32
+pub fn reason(answer: Result<Correctness, ErrorKind>) -> u32
     ensures { result ≡ reasons.reason answer }
 {
     match answer {
-        Typed::Is(_) => 0,
-        Typed::Not(error) => error.reason(),
+        Ok(_) => 0,
+        Err(error) => error.reason(),
     }
 }
 
@@ -144,7 +143,7 @@ pub fn reduce1(nodes: &[u32], m: usize, kind: u32) -> Result<Node, u32>
 {
     let x = m - 1;
     let answer = cast(kind, type_at(nodes, x));
-    let Typed::Is(ty) = answer else {
+    let Ok(ty) = answer else {
         return Err(reason(answer));
     };
     let size = size_at(nodes, x) + 1;
@@ -161,7 +160,7 @@ pub fn reduce2(nodes: &[u32], m: usize, kind: u32) -> Result<Node, u32>
     let y = x - (x_size as usize);
     let y_size = size_at(nodes, y);
     let answer = combine(kind, type_at(nodes, x), type_at(nodes, y));
-    let Typed::Is(ty) = answer else {
+    let Ok(ty) = answer else {
         return Err(reason(answer));
     };
     let size = x_size + y_size + 1;
@@ -180,7 +179,7 @@ pub fn tern(nodes: &[u32], m: usize) -> Result<Node, u32>
     let y = z - (z_size as usize);
     let y_size = size_at(nodes, y);
     let answer = Correctness::and_or(type_at(nodes, x), type_at(nodes, y), type_at(nodes, z));
-    let Typed::Is(ty) = answer else {
+    let Ok(ty) = answer else {
         return Err(reason(answer));
     };
     let size = x_size + y_size + z_size + 1;
@@ -198,7 +197,7 @@ pub fn thresh(nodes: &[u32], m: usize, k: u32, n: u32) -> Result<Node, u32>
     for i in 0..n {
         let child = at - 1;
         let answer = Correctness::threshold_child(i, earlier, type_at(nodes, child));
-        let Typed::Is(next) = answer else {
+        let Ok(next) = answer else {
             return Err(reason(answer));
         };
         let child_size = size_at(nodes, child);
