@@ -9,7 +9,7 @@ pub returns-in_default : goal.returns-in_default
 returns-in_default c = child_refused c.args.nodes.now c.args.m c.args.n c.loop-i.invariant c.loop-i-test.true c.type_at.ensures c.threshold_child-answer.ensures c.in_default.is
 
 pub loop-i-preserved : goal.loop-i-preserved
-loop-i-preserved c = threshing_again c.args.nodes.now c.args.m c.args.n c.loop-i.invariant c.loop-i-test.true c.type_at.ensures c.threshold_child-answer.ensures c.in-Is.is c.size_at.ensures
+loop-i-preserved c = threshing_again c.args.nodes.now c.args.m c.args.n c.loop-i.invariant c.loop-i-test.true c.type_at.ensures c.threshold_child-answer.ensures c.in-Ok.is c.size_at.ensures
 
 pub returns : goal.returns
 returns c = thresh_typed c.args.nodes.now c.args.m c.args.n c.loop-i.invariant c.loop-i-test.false
