@@ -19,6 +19,7 @@ use std::io::Read;
 
 // How many reads may still follow: none behind the end of the input. A proved loop has to end, and nothing says that an input does: so reads
 // are counted down, from a number that no run uses up.
+#[derive(Drop)]
 pub struct Reads {
     left: u64,
 }

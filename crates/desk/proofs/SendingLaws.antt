@@ -5,14 +5,11 @@ use Prim.Native.Nat.{ℕ, ◌+◌, ◌-◌, ◌≤◌, ◌<◌, min}
 use native.Mathlib.Omega.{arith}
 use lib.ListN.{length, take, drop, length-append, length-take, drop_of_length-le}
 use lib.Seq.{length-take-le}
-use lib.Dec.{eqb}
-use mathlib.Core.Bool.{true, false}
-use borrow.Author.Tests.{eqb-false}
 use Rattle.calls.specs.declared.Wrote.{Wrote}
 use Rattle.hex_line.specs.Feeding.{Fed, fed, left_by}
 use Rattle.clerk.specs.declared.Hand.{Hand}
-use Rattle.desk.specs.declared.Sent.{Sent}
-use Rattle.desk.specs.declared.Sent.TheVariants.{All, Failed}
+use Rattle.calls.specs.declared.Failed.{Failed}
+use Rattle.std.specs.Prelude.{Result, Ok, Err}
 use Rattle.desk.specs.Stops.{Sends}
 use Rattle.clerk.specs.Owed.{owed, leaves, laid, Answered}
 
@@ -35,11 +32,11 @@ pub record Sending (n : ℕ) (part text : List ℕ) (left : Fed) (hand : Hand) (
   pub whole : written ++ (take hand.used out ++ owed hand part script nodes keys) ≡ text
 
 -- how writing went, told of the case
-pub all_sent : (P : Hand → Type 0) (r : Sent) {hand : Hand} → r ≡ All hand → Sends r P → P hand
-all_sent P r e s = subst (λ (x : Sent). Sends x P) e s
+pub all_sent : (P : Hand → Type 0) (r : Result Hand Failed) {hand : Hand} → r ≡ Ok hand → Sends r P → P hand
+all_sent P r e s = subst (λ (x : Result Hand Failed). Sends x P) e s
 
-pub not_sent : (P : Hand → Type 0) (r : Sent) {wrote : Wrote} → r ≡ Failed wrote → Sends r P → wrote.failed ≡ true
-not_sent P r e s = subst (λ (x : Sent). Sends x P) e s
+pub not_sent : (P : Hand → Type 0) (r : Result Hand Failed) {failed : Failed} → r ≡ Err failed → Sends r P → failed.wrote.n ≡ 0
+not_sent P r e s = subst (λ (x : Result Hand Failed). Sends x P) e s
 
 -- nothing of what a turn laid out waits any more
 abbrev pub CrossedOff : Hand → Hand → Type 0
@@ -106,11 +103,10 @@ crossed hand left r count s e =
     let u : r.used ≡ left.used - count = ap (λ (h : Hand). h.used) e in
     (e ∙ ap (λ (h : Hand). laid h h.next (left.used - count)) s.0 ∙ ap (laid hand hand.next) (sym u), omega (arith, u, s.1))
 
-pub fewer_wait : (left r : Hand) (wrote : Wrote) → 0 < left.used → wrote.failed ≡ eqb wrote.n 0 → wrote.failed ≡ false → r ≡ laid left left.next (left.used - wrote.n)
+pub fewer_wait : (left r : Hand) (wrote : Wrote) → 0 < left.used → 0 < wrote.n → r ≡ laid left left.next (left.used - wrote.n)
     → r.used < left.used
-fewer_wait left r wrote h f t e =
+fewer_wait left r wrote h some e =
     let u : r.used ≡ left.used - wrote.n = ap (λ (x : Hand). x.used) e in
-    let some : _ = eqb-false wrote.n 0 (sym f ∙ t) in
     omega (arith, u, h, some)
 
 -- none waits any more

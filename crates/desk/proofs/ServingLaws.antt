@@ -1,20 +1,15 @@
 -- Part after part of the input: how far the line at hand has been read is what all parts so far leave, cut as they were. Assumes nothing.
 use mathlib.Core.Path.{◌≡◌, refl, sym, ap, ◌∙◌}
-use mathlib.Core.List.{List, [], ◌∷◌, ◌++◌, append-nil}
+use mathlib.Core.List.{List, [], ◌∷◌, ◌++◌}
 use Prim.Native.Nat.{ℕ, ◌≤◌, ◌<◌}
 use native.Mathlib.Omega.{arith}
-use lib.Dec.{eqb}
-use mathlib.Core.Bool.{false}
-use borrow.Author.Tests.{eqb-false}
 use lib.ListN.{length, take}
 use lib.Seq.{length-take-le}
-use Rattle.tables.specs.Tables.{flat}
 use Rattle.hex_line.specs.declared.Line.{Line}
 use Rattle.hex_line.specs.Feeding.{Fed, fed, left_by}
-use Rattle.calls.specs.declared.Part.{Part}
 use Rattle.clerk.specs.declared.Hand.{Hand}
-use Rattle.desk.specs.declared.Sent.{Sent}
-use Rattle.desk.specs.declared.Sent.TheVariants.{All, Failed}
+use Rattle.calls.specs.declared.Failed.{Failed}
+use Rattle.std.specs.Prelude.{Result, Ok, Err}
 use Rattle.desk.specs.Stops.{Sends}
 use Rattle.clerk.specs.Owed.{owed, leaves, due}
 
@@ -40,22 +35,18 @@ pub part_answered : (start : Fed) (line : Line) (script part : List ℕ) (line�
 part_answered start line script part line₁ script₁ s e =
     record { parts = s.parts ++ (part ∷ []); at_hand = e ∙ ap (λ (f : Fed). left_by f part) s.at_hand ∙ sym (one_more start s.parts part) }
 
-also : (P Q : Hand → Type 0) (r : Sent) → ((hand : Hand) → P hand → Q hand) → Sends r P → Sends r Q
-also P Q (All hand) f s = f hand s
-also P Q (Failed wrote) f s = s
+also : (P Q : Hand → Type 0) (r : Result Hand Failed) → ((hand : Hand) → P hand → Q hand) → Sends r P → Sends r Q
+also P Q (Ok hand) f s = f hand s
+also P Q (Err failed) f s = s
 
 -- what `receive` and `write_out` ensure together
-pub part_sent : (line : Line) (part : Part) (n : ℕ) (input script nodes keys : List ℕ) (hand : Hand) (script₁ : List ℕ) (r : Sent) → n ≡ part.n → part.n ≤ length input
+pub part_sent : (line : Line) (n : ℕ) (input script nodes keys : List ℕ) (hand : Hand) (script₁ : List ℕ) (r : Result Hand Failed) → n ≤ length input
     → ((bytes : List ℕ) → length bytes ≡ n → (owed hand bytes script nodes keys ≡ due (fed line script) bytes) × (0 < n → leaves hand bytes script ≡ left_by (fed line script) bytes))
     → Sends r (λ (left : Hand). fed left.line script₁ ≡ leaves hand (take n input) script)
-    → Sends r (λ (left : Hand). 0 < part.n → fed left.line script₁ ≡ left_by (fed line script) (take part.n input))
-part_sent line part n input script nodes keys hand script₁ r e l told = also _ _ r left
+    → Sends r (λ (left : Hand). 0 < n → fed left.line script₁ ≡ left_by (fed line script) (take n input))
+part_sent line n input script nodes keys hand script₁ r l told = also _ _ r left
   where
-    left : (h : Hand) → fed h.line script₁ ≡ leaves hand (take n input) script → 0 < part.n → fed h.line script₁ ≡ left_by (fed line script) (take part.n input)
+    left : (h : Hand) → fed h.line script₁ ≡ leaves hand (take n input) script → 0 < n → fed h.line script₁ ≡ left_by (fed line script) (take n input)
     left h w some =
-        let m : length (take n input) ≡ n = length-take-le n input (omega (arith, e, l)) in
-        w ∙ (told (take n input) m).1 (omega (arith, e, some)) ∙ ap (λ (k : ℕ). left_by (fed line script) (take k input)) e
-
--- a part that isn't the end has bytes
-pub not_the_end : (part : Part) → part.ended ≡ eqb part.n 0 → part.ended ≡ false → 0 < part.n
-not_the_end part e f = let some : _ = eqb-false part.n 0 (sym e ∙ f) in omega (arith, some)
+        let m : length (take n input) ≡ n = length-take-le n input (omega (arith, l)) in
+        w ∙ (told (take n input) m).1 (omega (arith, some))

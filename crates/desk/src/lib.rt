@@ -22,49 +22,29 @@
 //   in all                                  53,960, under 64 KiB (65,536)
 #![tactic(auto)]
 
-ghost use Rattle.std.specs.Prelude.{◌≡◌, true, false, ◌≤◌, ◌<◌, length, take};
+ghost use Rattle.std.specs.Prelude.{◌≡◌, ◌≤◌, ◌<◌, length, take};
 ghost use Rattle.hex_line.specs.Feeding.{fed, left_by};
 ghost use Rattle.clerk.specs.declared.Hand.{Hand};
 ghost use Rattle.clerk.specs.Owed.{leaves, laid};
 ghost use Rattle.desk.specs.Stops.{Sends, Stops};
 
-use calls::{Part, Wrote};
+use calls::{Ended, Failed};
 use clerk::Hand;
 use hex_line::Line;
-
-// Why the desk stopped.
-#[derive(Clone, Copy)]
-pub enum End {
-    // The input has ended.
-    Input(Part),
-    // A write failed.
-    Output(Wrote),
-}
-
-// How writing went.
-#[derive(Clone, Copy)]
-enum Sent {
-    // Nothing waits any more: the hand as it is now.
-    All(Hand),
-    Failed(Wrote),
-}
+use reply::Tables;
 
 // The bytes that a turn laid out, at the front of the output, written: a write that is cut short goes on.
-fn write_front(rt: HostRuntime, out: &[u8], hand: Hand) -> Sent
+fn write_front(rt: HostRuntime, out: &[u8], hand: Hand) -> Result<Hand, Failed>
     requires { hand.used ≤ length out.now }
     ensures { Sends result (λ (left : Hand). left ≡ laid hand hand.next 0) }
 {
     let to = hand.used;
     let mut left = hand;
     while left.used > 0 {
-        let from = to - left.used;
-        let wrote = calls::write(rt, &out[from..to]);
-        if calls::has_failed(wrote) {
-            return Sent::Failed(wrote);
-        }
+        let wrote = calls::write(rt, &out[to - left.used..to])?;
         left = clerk::written(left, wrote);
     }
-    Sent::All(left)
+    Ok(left)
 }
 
 // Turn after turn of the clerk, each written, until nothing is owed for this part of the input.
@@ -74,94 +54,74 @@ fn write_out(
     input: &[u8; 4096],
     n: usize,
     script: &mut [u8; 520],
-    tokens: &mut [u32; 3120],
-    nodes: &mut [u32; 4608],
-    keys: &mut [u32; 128],
-    work: &mut [u64; 1024],
+    tables: &mut Tables,
     out: &mut [u8; 8192],
-) -> Sent
+) -> Result<Hand, Failed>
     requires { (n ≤ 4096) × (hand.at ≤ n) × (hand.used ≡ 0) }
     ensures { Sends result (λ (left : Hand). fed left.line script.new ≡ leaves hand (take n input.now) script.old) }
 {
-    let mut held = clerk::turn(hand, input, n, script, tokens, nodes, keys, work, out);
+    let mut held = clerk::turn(hand, input, n, script, tables, out);
     while held.used > 0 {
-        match write_front(rt, out, held) {
-            Sent::All(left) => {
-                held = clerk::turn(left, input, n, script, tokens, nodes, keys, work, out);
-            }
-            Sent::Failed(wrote) => return Sent::Failed(wrote),
-        }
+        let left = write_front(rt, out, held)?;
+        held = clerk::turn(left, input, n, script, tables, out);
     }
-    Sent::All(held)
+    Ok(held)
 }
 
-// One part of the input, with the line that was open before it: answered and written.
+// One part of the input, of n bytes, with the line that was open before it: answered and written. None says that the input has ended.
 fn answer_part(
     rt: HostRuntime,
     line: Line,
-    part: Part,
     input: &[u8; 4096],
+    n: usize,
     script: &mut [u8; 520],
-    tokens: &mut [u32; 3120],
-    nodes: &mut [u32; 4608],
-    keys: &mut [u32; 128],
-    work: &mut [u64; 1024],
+    tables: &mut Tables,
     out: &mut [u8; 8192],
-) -> Sent
-    requires { (part.n ≤ 4096) × (part.n ≤ length input.now) }
-    ensures { Sends result (λ (left : Hand). 0 < part.n → fed left.line script.new ≡ left_by (fed line script.old) (take part.n input.now)) }
+) -> Result<Hand, Failed>
+    requires { n ≤ 4096 }
+    ensures { Sends result (λ (left : Hand). 0 < n → fed left.line script.new ≡ left_by (fed line script.old) (take n input.now)) }
 {
-    let n = calls::size(part);
-    let hand = clerk::receive(line, n, script, tokens, nodes, keys, work);
-    write_out(rt, hand, input, n, script, tokens, nodes, keys, work, out)
+    let hand = clerk::receive(line, n, script, tables);
+    write_out(rt, hand, input, n, script, tables, out)
 }
 
 // Standard input, part by part to its end, with these tables.
 fn serve(
     rt: HostRuntime,
     script: &mut [u8; 520],
-    tokens: &mut [u32; 3120],
-    nodes: &mut [u32; 4608],
-    keys: &mut [u32; 128],
-    work: &mut [u64; 1024],
+    tables: &mut Tables,
     out: &mut [u8; 8192],
-) -> End
+) -> Result<Ended, Failed>
     ensures { Stops result }
 {
     let mut input = [0u8; 4096];
     let mut line = Line::Nothing;
-    let mut part = calls::begin();
-    while !calls::has_ended(part) {
-        part = calls::next(rt, part, &mut input);
-        match answer_part(
-            rt, line, part, &input, script, tokens, nodes, keys, work, out,
-        ) {
-            Sent::All(hand) => {
-                line = hand.line;
+    let mut reads = calls::begin();
+    loop {
+        match calls::next(rt, &mut reads, &mut input) {
+            Ok(part) => {
+                let left = answer_part(rt, line, &input, part.size(), script, tables, out)?;
+                line = left.line;
             }
-            Sent::Failed(wrote) => return End::Output(wrote),
+            Err(ended) => {
+                answer_part(rt, line, &input, 0, script, tables, out)?;
+                return Ok(ended);
+            }
         }
     }
-    End::Input(part)
 }
 
-// Answers standard input line by line to its end.
-pub fn run(rt: HostRuntime) -> End
+// Answers standard input line by line to its end, or to a write that failed.
+pub fn run(rt: HostRuntime) -> Result<Ended, Failed>
     ensures { Stops result }
 {
     let mut script = [0u8; 520];
-    let mut tokens = [0u32; 3120];
-    let mut nodes = [0u32; 4608];
-    let mut keys = [0u32; 128];
-    let mut work = [0u64; 1024];
+    let mut tables = Tables {
+        tokens: [0; 3120],
+        nodes: [0; 4608],
+        keys: [0; 128],
+        work: [0; 1024],
+    };
     let mut out = [0u8; 8192];
-    serve(
-        rt,
-        &mut script,
-        &mut tokens,
-        &mut nodes,
-        &mut keys,
-        &mut work,
-        &mut out,
-    )
+    serve(rt, &mut script, &mut tables, &mut out)
 }

@@ -15,6 +15,7 @@ use hex_line::Line;
 use listing::Header;
 
 // What the reader is lent: 1,040 tokens of three numbers, 512 nodes of nine, 128 keys and 1,024 work entries.
+#[derive(Drop)]
 pub struct Tables {
     pub tokens: [u32; 3120],
     pub nodes: [u32; 4608],

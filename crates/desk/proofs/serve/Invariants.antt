@@ -4,13 +4,9 @@ use Rattle.calls.specs.Reads.{reads_left}
 use Rattle.desk.proofs.ServingLaws.{Serving}
 use Rattle.desk.proofs.serve.Given as goal
 use Rattle.hex_line.specs.Feeding.{fed}
-use mathlib.Core.Bool.{false}
-use mathlib.Core.Path.{◌≡◌}
 
-abbrev pub invariant-loop-rt : goal.invariant-loop-rt
-invariant-loop-rt l =
-    l.part.ended ≡ false → Serving (fed l.initial.line l.initial.script) l.line l.script
+abbrev pub invariant-loop-part : goal.invariant-loop-part
+invariant-loop-part l = Serving (fed l.initial.line l.initial.script) l.line l.script
 
-abbrev pub decreases-loop-rt : goal.decreases-loop-rt
-decreases-loop-rt l =
-    reads_left l.part
+abbrev pub decreases-loop-part : goal.decreases-loop-part
+decreases-loop-part l = reads_left l.reads
