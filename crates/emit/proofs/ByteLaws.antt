@@ -1,16 +1,20 @@
 -- Bytes written one after the other: the loops that write a number's digits and a push's data, and what a number and a push are as bytes. Assumes nothing.
 use mathlib.Core.Path.{◌≡◌, refl, sym, ap, ◌∙◌}
 use mathlib.Core.Bool.{Bool, true, false}
-use mathlib.Core.List.{List, [], ◌∷◌, ◌++◌}
-use Prim.Native.Nat.{ℕ, zero, suc, ◌+◌, ◌/◌, ◌%◌, ◌≤◌, ◌<◌}
+use mathlib.Core.List.{List, [], ◌∷◌, ◌++◌, append_assoc}
+use Prim.Native.Nat.{ℕ, zero, suc, ◌+◌, ◌-◌, ◌/◌, ◌%◌, ◌≤◌, ◌<◌}
 use native.Mathlib.Omega.{arith}
 use lib.Dec.{ltb}
-use lib.ListN.{length, get_or, set, take, drop, length-set, length-drop}
-use lib.Seq.{length-take-le, take-suc, get_or-drop}
+use native.Mathlib.Nat.{add-sub_cancel_left}
+use borrow.Rule.Slice.PartMut.{put_mid}
+use Rattle.std.specs.Int.{to_le_bytes}
+use Rattle.std.proofs.Common.{w32}
+use lib.ListN.{length, set, take, drop, length-drop}
+use lib.Seq.{length-take-le, drop-drop}
 use borrow.Author.Tests.{eq-eqb, ne_eqb, le-leb, lt-leb, ltb-true}
 use Rattle.tables.specs.Choose.{pick}
 use Rattle.tables.specs.Tables.{put_next, put_at}
-use Rattle.tables.proofs.PutLaws.{put_more}
+use Rattle.tables.proofs.PutLaws.{put_parts}
 use Rattle.spelling.specs.Spell.{push_bytes, digits, number_bytes}
 use Rattle.emit.specs.Emission.{digit_count, low_bytes}
 
@@ -26,101 +30,40 @@ pub put_then : (t : List ℕ) (i x : ℕ) (xs : List ℕ) → put_at (set t i x)
 put_then t i x [] = refl
 put_then t i x (y ∷ ys) = next_on (set (set t i x) (i + 1) y) i 1 ys
 
+-- bytes copied over a part of the output
+pub put_as_part : (t : List ℕ) (at : ℕ) (xs ys : List ℕ) → ys ≡ xs → at + length xs ≤ length t → put_mid at (at + length xs - at) t ys ≡ put_at t at xs
+put_as_part t at xs ys e h =
+    ap (put_mid at (at + length xs - at) t) e
+    ∙ ap (λ (k : ℕ). put_mid at k t xs) (add-sub_cancel_left at (length xs))
+    ∙ ap (λ (l : List ℕ). take at t ++ (xs ++ l)) (drop-drop (length xs) at t)
+    ∙ sym (append_assoc (take at t) xs (drop (at + length xs) t))
+    ∙ sym (put_parts t at xs h)
+
 -- The lowest bytes
 
 pub low_length : (size n : ℕ) → length (low_bytes size n) ≡ size
 low_length zero n = refl
 low_length (suc size) n = ap suc (low_length size (n / 256))
 
--- what is left of a number when so many bytes are taken off
-abbrev shifted : ℕ → ℕ → ℕ
-shifted zero n = n
-shifted (suc i) n = shifted i (n / 256)
-
-shifted_more : (i n : ℕ) → shifted i n / 256 ≡ shifted (suc i) n
-shifted_more zero n = refl
-shifted_more (suc i) n = shifted_more i (n / 256)
-
-low_more : (i n : ℕ) → low_bytes i n ++ (shifted i n % 256 ∷ []) ≡ low_bytes (suc i) n
-low_more zero n = refl
-low_more (suc i) n = ap (λ (l : List ℕ). n % 256 ∷ l) (low_more i (n / 256))
-
--- before turn i
-pub record Lowering (before now : List ℕ) (at size n rest i : ℕ) : Type 0 where
-  pub within : i ≤ size
-  pub left : rest ≡ shifted i n
-  pub kept : length now ≡ length before
-  pub holds : now ≡ put_at before at (low_bytes i n)
-
-module _ {before : List ℕ} {at size n : ℕ} where
-  pub low_begun : Lowering before before at size n n 0
-  low_begun = record { within = omega arith; left = refl; kept = refl; holds = refl }
-
-  module _ {now : List ℕ} {rest i : ℕ} (c : Lowering before now at size n rest i) where
-    pub low_turned : (x : ℕ) → i < size → x ≡ rest % 256 → Lowering before (set now (at + i) x) at size n (rest / 256) (i + 1)
-    low_turned x h v =
-        let s : suc i ≡ i + 1 = omega arith in
-        record {
-          within = omega arith;
-          left = ap (λ (k : ℕ). k / 256) c.left ∙ shifted_more i n ∙ ap (λ (k : ℕ). shifted k n) s;
-          kept = length-set now (at + i) x ∙ c.kept;
-          holds =
-              ap (λ (y : ℕ). set now (at + i) y) (v ∙ ap (λ (k : ℕ). k % 256) c.left)
-              ∙ ap (λ (t : List ℕ). set t (at + i) (shifted i n % 256)) c.holds
-              ∙ ap (λ (k : ℕ). set (put_at before at (low_bytes i n)) (at + k) (shifted i n % 256)) (sym (low_length i n))
-              ∙ put_more before at (low_bytes i n) (shifted i n % 256)
-              ∙ ap (put_at before at) (low_more i n)
-              ∙ ap (λ (k : ℕ). put_at before at (low_bytes k n)) s;
-        }
-
-    pub low_ended : size ≤ i → now ≡ put_at before at (low_bytes size n)
-    low_ended h =
-        let w : i ≤ size = c.within in
-        let e : i ≡ size = omega arith in
-        c.holds ∙ ap (λ (k : ℕ). put_at before at (low_bytes k n)) e
+-- the first of the four that the library makes
+pub low_of_four : (size n : ℕ) → size ≤ 4 → take size (to_le_bytes w32 n) ≡ low_bytes size n
+low_of_four zero n h = refl
+low_of_four (suc zero) n h = refl
+low_of_four (suc (suc zero)) n h = refl
+low_of_four (suc (suc (suc zero))) n h = let e : n / 65536 % 256 ≡ n / 256 / 256 % 256 = omega arith in ap (λ (k : ℕ). n % 256 ∷ n / 256 % 256 ∷ k ∷ []) e
+low_of_four (suc (suc (suc (suc zero)))) n h =
+    let e : n / 65536 % 256 ≡ n / 256 / 256 % 256 = omega arith in
+    let f : n / 16777216 % 256 ≡ n / 256 / 256 / 256 % 256 = omega arith in
+    ap (λ (k : ℕ). n % 256 ∷ n / 256 % 256 ∷ k ∷ n / 16777216 % 256 ∷ []) e ∙ ap (λ (k : ℕ). n % 256 ∷ n / 256 % 256 ∷ n / 256 / 256 % 256 ∷ k ∷ []) f
+low_of_four (suc (suc (suc (suc (suc size))))) n h = absurd (omega arith)
 
 -- The data of a push
 
 abbrev part : List ℕ → ℕ → ℕ → List ℕ
 part material place size = take size (drop place material)
 
-part_more : (material : List ℕ) (place i : ℕ) → place + i < length material → part material place i ++ (get_or material (place + i) 0 ∷ []) ≡ part material place (suc i)
-part_more material place i h =
-    ap (λ (x : ℕ). part material place i ++ (x ∷ [])) (sym (get_or-drop place material i 0))
-    ∙ sym (take-suc (drop place material) i 0 (omega (arith, length-drop place material)))
-
 pub part_length : (material : List ℕ) (place size : ℕ) → place + size ≤ length material → length (part material place size) ≡ size
 part_length material place size h = length-take-le size (drop place material) (omega (arith, length-drop place material))
-
-pub record Copying (before now material : List ℕ) (at place size i : ℕ) : Type 0 where
-  pub within : i ≤ size
-  pub kept : length now ≡ length before
-  pub holds : now ≡ put_at before at (part material place i)
-
-module _ {before material : List ℕ} {at place size : ℕ} (inside : place + size ≤ length material) where
-  pub data_begun : Copying before before material at place size 0
-  data_begun = record { within = omega arith; kept = refl; holds = refl }
-
-  module _ {now : List ℕ} {i : ℕ} (c : Copying before now material at place size i) where
-    pub data_turned : i < size → Copying before (set now (at + i) (get_or material (place + i) 0)) material at place size (i + 1)
-    data_turned h =
-        let s : suc i ≡ i + 1 = omega arith in
-        record {
-          within = omega arith;
-          kept = length-set now (at + i) (get_or material (place + i) 0) ∙ c.kept;
-          holds =
-              ap (λ (t : List ℕ). set t (at + i) (get_or material (place + i) 0)) c.holds
-              ∙ ap (λ (k : ℕ). set (put_at before at (part material place i)) (at + k) (get_or material (place + i) 0)) (sym (part_length material place i (omega arith)))
-              ∙ put_more before at (part material place i) (get_or material (place + i) 0)
-              ∙ ap (put_at before at) (part_more material place i (omega arith))
-              ∙ ap (λ (k : ℕ). put_at before at (part material place k)) s;
-        }
-
-    pub data_ended : size ≤ i → now ≡ put_at before at (part material place size)
-    data_ended h =
-        let w : i ≤ size = c.within in
-        let e : i ≡ size = omega arith in
-        c.holds ∙ ap (λ (k : ℕ). put_at before at (part material place k)) e
 
 -- A number
 
@@ -204,9 +147,6 @@ module _ (t material : List ℕ) (at place size : ℕ) (inside : place + size �
   pub wrote_push : (x : ℕ) → x ≡ size → (now : List ℕ) → now ≡ put_at (set t at x) (at + 1) (part material place size) → now ≡ put_at t at (push_bytes (part material place size))
   wrote_push x e now h =
       h ∙ put_then t at x (part material place size) ∙ ap (λ (y : ℕ). put_at t at (y ∷ part material place size)) (e ∙ sym (part_length material place size inside))
-
-  pub push_room : (room : ℕ) → at + length (push_bytes (part material place size)) ≤ room → at + 1 + size ≤ room
-  push_room room h = omega (arith, part_length material place size inside)
 
   pub push_ends : at + 1 + size ≡ at + length (push_bytes (part material place size))
   push_ends = omega (arith, part_length material place size inside)

@@ -1,5 +1,4 @@
 -- Laws of writing lexemes.
 pub mod CodeLaws
 pub mod ByteLaws
-pub mod OpLaws
 pub mod PenLaws

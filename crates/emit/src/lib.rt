@@ -2,11 +2,11 @@
 // before it where a fused form exists. Only the last byte written is ever looked back at.
 #![tactic(auto)]
 
-ghost use Rattle.std.specs.Prelude.{◌≡◌, ◌+◌, ◌≤◌, length, take, drop};
+ghost use Rattle.std.specs.Prelude.{◌≡◌, ◌+◌, ◌≤◌, length};
 ghost use Rattle.tables.specs.Tables.{put_at};
 ghost use Rattle.lex.specs.Token.{op, num, push, data_at};
 ghost use Rattle.spelling.specs.Spell.{opcode_byte, has_fused, fused_byte, number_bytes};
-ghost use Rattle.emit.specs.Emission.{fusing, digit_count, low_bytes, inked, penned, Room};
+ghost use Rattle.emit.specs.Emission.{fusing, digit_count, inked, penned, Room};
 
 use instruction::token;
 
@@ -54,18 +54,17 @@ fn opcode_byte(code: u32) -> u8
 }
 
 // The opcodes that have a form with VERIFY in it: all four of them.
+#[tactic(auto, unfolding(spelling::specs::Spell::has_fused))]
 fn has_fused(code: u32) -> bool
     ensures { result ≡ has_fused code }
 {
-    match code {
-        token::EQUAL => true,
-        token::NUM_EQUAL => true,
-        token::CHECK_SIG => true,
-        token::CHECK_MULTI_SIG => true,
-        _ => false,
-    }
+    matches!(
+        code,
+        token::EQUAL | token::NUM_EQUAL | token::CHECK_SIG | token::CHECK_MULTI_SIG
+    )
 }
 
+#[tactic(auto, unfolding(spelling::specs::Spell::fused_byte))]
 fn fused_byte(code: u32) -> u8
     ensures { result ≡ fused_byte code }
 {
@@ -81,10 +80,7 @@ fn fused_byte(code: u32) -> u8
 fn fuses(last: u32, code: u32) -> bool
     ensures { result ≡ fusing last code }
 {
-    if has_fused(last) {
-        return code == token::VERIFY;
-    }
-    false
+    has_fused(last) && code == token::VERIFY
 }
 
 // An opcode.
@@ -106,47 +102,24 @@ pub fn emit_op(out: &mut [u8], pen: Pen, code: u32) -> Pen
 }
 
 // How many bytes the digits of a number have, with the top bit of the last one free for the sign.
+#[tactic(auto, unfolding(crate::specs::Emission::digit_count))]
 fn digit_count(n: u32) -> usize
     ensures { result ≡ digit_count n }
 {
-    if n < 0x80 {
-        return 1;
+    match n {
+        0..=0x7f => 1,
+        0x80..=0x7fff => 2,
+        0x8000..=0x7fffff => 3,
+        _ => 4,
     }
-    if n < 0x8000 {
-        return 2;
-    }
-    if n < 0x800000 {
-        return 3;
-    }
-    4
 }
 
-fn low_byte(n: u32) -> u8
-    requires { n ≤ 255 }
-    ensures { result ≡ n }
+// Bytes written from a place on.
+fn put_bytes(out: &mut [u8], at: usize, bytes: &[u8])
+    requires { at + length bytes.now ≤ length out.old }
+    ensures { out.new ≡ put_at out.old at bytes.now }
 {
-    n as u8
-}
-
-fn short_byte(n: usize) -> u8
-    requires { n ≤ 255 }
-    ensures { result ≡ n }
-{
-    n as u8
-}
-
-// The lowest bytes of a number, the lowest first.
-fn put_low_bytes(out: &mut [u8], at: usize, size: usize, n: u32)
-    requires { at + size ≤ length out.old }
-    ensures { out.new ≡ put_at out.old at (low_bytes size n) }
-{
-    let mut rest = n;
-    let mut i = 0;
-    while i < size {
-        out[at + i] = low_byte(rest % 256);
-        rest /= 256;
-        i += 1;
-    }
+    out[at..at + bytes.len()].copy_from_slice(bytes);
 }
 
 // The shortest way to push a number: 0 is an empty push, 1 to 16 have opcodes, any other is pushed by its digits.
@@ -159,12 +132,12 @@ fn put_number(out: &mut [u8], at: usize, n: u32) -> usize
         return at + 1;
     }
     if n <= 16 {
-        out[at] = low_byte(0x50 + n);
+        out[at] = (0x50 + n) as u8;
         return at + 1;
     }
     let size = digit_count(n);
-    out[at] = short_byte(size);
-    put_low_bytes(out, at + 1, size, n);
+    out[at] = size as u8;
+    put_bytes(out, at + 1, &n.to_le_bytes()[..size]);
     at + 1 + size
 }
 
@@ -177,26 +150,14 @@ pub fn emit_number(out: &mut [u8], pen: Pen, n: u32) -> Pen
     Pen { at, last: 0 }
 }
 
-// So many bytes of the material from a place on.
-fn put_data(out: &mut [u8], at: usize, material: &[u8], place: usize, size: usize)
-    requires { (at + size ≤ length out.old) × (place + size ≤ length material.now) }
-    ensures { out.new ≡ put_at out.old at (take size (drop place material.now)) }
-{
-    let mut i = 0;
-    while i < size {
-        out[at + i] = material[place + i];
-        i += 1;
-    }
-}
-
 // A push of so many bytes of the material, at most 75.
 pub fn emit_push(out: &mut [u8], pen: Pen, material: &[u8], place: usize, size: usize) -> Pen
     requires { (Room (length out.old) pen (push 0 (data_at material.now place size))) × (place + size ≤ length material.now) × (size ≤ 75) }
     ensures { (out.new ≡ inked out.old pen (push 0 (data_at material.now place size))) × (result ≡ penned pen (push 0 (data_at material.now place size))) }
 {
     let at = pen.at;
-    out[at] = short_byte(size);
-    put_data(out, at + 1, material, place, size);
+    out[at] = size as u8;
+    put_bytes(out, at + 1, &material[place..place + size]);
     Pen {
         at: at + 1 + size,
         last: 0,
