@@ -145,7 +145,7 @@ fn lock_size(
     }
 }
 
-// The token.number 32.
+// The number 32.
 fn lock_32(
     tokens: &[u32],
     left: usize,
