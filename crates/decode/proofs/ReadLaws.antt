@@ -1,4 +1,5 @@
 -- What `read` leaves behind: the tables wiped after a refusal, the place of a refusal's token, and the run's end as the whole outcome. Assumes nothing.
+use Rattle.std.proofs.Common.{Ok, Err}
 use mathlib.Core.Path.{◌≡◌, refl, sym, ap, subst, ◌∙◌}
 use mathlib.Core.Bool.{Bool, true, false}
 use mathlib.Core.List.{List, [], ◌∷◌, ◌++◌, map, reverse_aux, reverse-reverse}
@@ -29,6 +30,7 @@ use Rattle.node_store.specs.Stored.{nodes_in, keys_in}
 use Rattle.perform.specs.View.{room_of, Behind}
 use Rattle.decode.specs.declared.Answer.{Answer}
 use Rattle.run.specs.declared.Ran.{Ran}
+use Rattle.run.specs.declared.Halted.{Halted}
 use Rattle.run.specs.Runs.{Refuses, Ends, Runs}
 use Rattle.decode.specs.Read as read
 use Rattle.decode.specs.Read.{lengths_of, outcome_at, refused_answer, place_in}
@@ -144,12 +146,12 @@ module _ (script tokens : List ℕ) (count : ℕ) (lexes : Lexes script (length 
         ap (lexed segwit lengths script) lexed_to
         ∙ ap (λ (l : List Lexeme). let r = decode segwit (room_of nodes keys work) l in judged segwit lengths ts r.steps r.verdict) (sym lexemes_are)
 
-    module _ (nodes' keys' : List ℕ) (ran : Ran) (runs : Runs segwit run nodes' keys' ran) (same_nodes : length nodes' ≡ length nodes) (same_keys : length keys' ≡ length keys) where
+    module _ (nodes' keys' : List ℕ) (same_nodes : length nodes' ≡ length nodes) (same_keys : length keys' ≡ length keys) where
       -- accepted
-      accepted_by : (v : Verdict) (steps : ℕ) → Ends segwit v steps nodes' keys' ran → ran.number ≡ 0 → (work' : List ℕ) → work' ≡ zeros (length work)
+      accepted_by : (v : Verdict) (steps : ℕ) (ran : Ran) → Ends segwit v steps nodes' keys' (Ok ran) → (work' : List ℕ) → work' ≡ zeros (length work)
           → outcome_at (record { number = 0; reason = 0; place = 0; tokens = count; steps = ran.steps; nodes = ran.nodes; keys = ran.keys }) tokens nodes' keys' work' ≡ judged segwit lengths ts steps v
-      accepted_by (refused r) steps h e work' w = let x : ⊥ = omega (arith, h.some, h.number_is) in absurd x
-      accepted_by (accepted t) steps h e work' w =
+      accepted_by (refused r) steps ran h work' w = absurd h
+      accepted_by (accepted t) steps ran h work' w =
           rw h.answers (
           ap (λ (n : ℕ). record { answer = record { number = 0; reason = 0; place = 0; tokens = n; steps = steps; nodes = length (node_table segwit (t ⊳ nil)); keys = length (key_table (t ⊳ nil)) }; tokens = tokens; nodes = nodes'; keys = keys'; work = work' }) (sym counted)
           ∙ ap (λ (l : List ℕ). record { answer = record { number = 0; reason = 0; place = 0; tokens = length ts; steps = steps; nodes = length (node_table segwit (t ⊳ nil)); keys = length (key_table (t ⊳ nil)) }; tokens = l; nodes = nodes'; keys = keys'; work = work' }) table_is
@@ -157,41 +159,42 @@ module _ (script tokens : List ℕ) (count : ℕ) (lexes : Lexes script (length 
           ∙ ap (λ (l : List ℕ). record { answer = record { number = 0; reason = 0; place = 0; tokens = length ts; steps = steps; nodes = length (node_table segwit (t ⊳ nil)); keys = length (key_table (t ⊳ nil)) }; tokens = flat (map numbers ts) ++ zeros (length tokens - 3 * length ts); nodes = nodes_in (length nodes) (node_table segwit (t ⊳ nil)); keys = l; work = work' }) (h.keys_are ∙ ap (λ (n : ℕ). keys_in n (key_table (t ⊳ nil))) same_keys)
           ∙ ap (λ (l : List ℕ). record { answer = record { number = 0; reason = 0; place = 0; tokens = length ts; steps = steps; nodes = length (node_table segwit (t ⊳ nil)); keys = length (key_table (t ⊳ nil)) }; tokens = flat (map numbers ts) ++ zeros (length tokens - 3 * length ts); nodes = nodes_in (length nodes) (node_table segwit (t ⊳ nil)); keys = keys_in (length keys) (key_table (t ⊳ nil)); work = l }) w)
 
-      pub accepts : ran.number ≡ 0 → (work' : List ℕ) → work' ≡ zeros (length work)
+      pub accepts : (ran : Ran) → Runs segwit run nodes' keys' (Ok ran) → (work' : List ℕ) → work' ≡ zeros (length work)
           → outcome_at (record { number = 0; reason = 0; place = 0; tokens = count; steps = ran.steps; nodes = ran.nodes; keys = ran.keys }) tokens nodes' keys' work' ≡ lexed segwit lengths script (lex_of (length tokens / 3) script)
-      accepts e work' w = accepted_by run.verdict run.steps runs e work' w ∙ sym lexed_is
+      accepts ran h work' w = accepted_by run.verdict run.steps ran h work' w ∙ sym lexed_is
 
       -- refused
-      refusal_is : (q : Refusal) (steps : ℕ) → Refuses q steps nodes' keys' ran
-          → refused_answer ran.number ran.reason (place_in tokens count ran.number ran.left) count ran.steps ≡ refused_answer q.number q.reason (place_of ts q) (length ts) steps
-      refusal_is q steps h =
-          ap (λ (p : ℕ). refused_answer ran.number ran.reason p count ran.steps) (place_is ran.number ran.left)
-          ∙ ap (λ (n : ℕ). refused_answer n ran.reason (pick (eqb n 9) 0 (pick (eqb n 19) 0 (place_at ts ran.left))) count ran.steps) h.number_is
-          ∙ ap (λ (n : ℕ). refused_answer q.number n (pick (eqb q.number 9) 0 (pick (eqb q.number 19) 0 (place_at ts ran.left))) count ran.steps) h.reason_is
-          ∙ ap (λ (n : ℕ). refused_answer q.number q.reason (pick (eqb q.number 9) 0 (pick (eqb q.number 19) 0 (place_at ts n))) count ran.steps) h.left_is
-          ∙ ap (λ (n : ℕ). refused_answer q.number q.reason (place_of ts q) n ran.steps) (sym counted)
-          ∙ ap (λ (n : ℕ). refused_answer q.number q.reason (place_of ts q) (length ts) n) h.steps_are
+      module _ (halted : Halted) where
+        refusal_is : (q : Refusal) (steps : ℕ) → Refuses q steps nodes' keys' halted
+            → refused_answer halted.stop.number halted.stop.reason (place_in tokens count halted.stop.number halted.stop.left) count halted.ran.steps ≡ refused_answer q.number q.reason (place_of ts q) (length ts) steps
+        refusal_is q steps h =
+            ap (λ (p : ℕ). refused_answer halted.stop.number halted.stop.reason p count halted.ran.steps) (place_is halted.stop.number halted.stop.left)
+            ∙ ap (λ (n : ℕ). refused_answer n halted.stop.reason (pick (eqb n 9) 0 (pick (eqb n 19) 0 (place_at ts halted.stop.left))) count halted.ran.steps) h.number_is
+            ∙ ap (λ (n : ℕ). refused_answer q.number n (pick (eqb q.number 9) 0 (pick (eqb q.number 19) 0 (place_at ts halted.stop.left))) count halted.ran.steps) h.reason_is
+            ∙ ap (λ (n : ℕ). refused_answer q.number q.reason (pick (eqb q.number 9) 0 (pick (eqb q.number 19) 0 (place_at ts n))) count halted.ran.steps) h.left_is
+            ∙ ap (λ (n : ℕ). refused_answer q.number q.reason (place_of ts q) n halted.ran.steps) (sym counted)
+            ∙ ap (λ (n : ℕ). refused_answer q.number q.reason (place_of ts q) (length ts) n) h.steps_are
 
-      refused_by : (v : Verdict) (steps : ℕ) → Ends segwit v steps nodes' keys' ran → (ran.number ≡ 0 → ⊥)
-          → record { answer = refused_answer ran.number ran.reason (place_in tokens count ran.number ran.left) count ran.steps; tokens = zeros (length tokens); nodes = zeros (length nodes); keys = zeros (length keys); work = zeros (length work) }
-          ≡ judged segwit lengths ts steps v
-      refused_by (accepted t) steps h e = absurd (e (ap (λ (r : Ran). r.number) h.answers))
-      refused_by (refused q) steps h e =
-          ap (λ (a : outcome.Answer). record { answer = a; tokens = zeros (length tokens); nodes = zeros (length nodes); keys = zeros (length keys); work = zeros (length work) }) (refusal_is q steps h)
+        refused_by : (v : Verdict) (steps : ℕ) → Ends segwit v steps nodes' keys' (Err halted)
+            → record { answer = refused_answer halted.stop.number halted.stop.reason (place_in tokens count halted.stop.number halted.stop.left) count halted.ran.steps; tokens = zeros (length tokens); nodes = zeros (length nodes); keys = zeros (length keys); work = zeros (length work) }
+            ≡ judged segwit lengths ts steps v
+        refused_by (accepted t) steps h = absurd h
+        refused_by (refused q) steps h =
+            ap (λ (a : outcome.Answer). record { answer = a; tokens = zeros (length tokens); nodes = zeros (length nodes); keys = zeros (length keys); work = zeros (length work) }) (refusal_is q steps h)
 
-      pub refuses : (ran.number ≡ 0 → ⊥) → (r : Answer) (place : ℕ) (t' n' k' w' : List ℕ) → read.answer_of r ≡ refused_answer ran.number ran.reason place count ran.steps → place ≡ place_in tokens count ran.number ran.left
-          → t' ≡ zeros (length tokens) → n' ≡ zeros (length nodes) → k' ≡ zeros (length keys) → w' ≡ zeros (length work) → outcome_at r t' n' k' w' ≡ lexed segwit lengths script (lex_of (length tokens / 3) script)
-      refuses e r place t' n' k' w' a p t n k w =
-          ap (λ (x : outcome.Answer). record { answer = x; tokens = t'; nodes = n'; keys = k'; work = w' }) (a ∙ ap (λ (i : ℕ). refused_answer ran.number ran.reason i count ran.steps) p)
-          ∙ rw (t, n, k, w) (refused_by run.verdict run.steps runs e ∙ sym lexed_is)
+        pub refuses : Runs segwit run nodes' keys' (Err halted) → (r : Answer) (place : ℕ) (t' n' k' w' : List ℕ) → read.answer_of r ≡ refused_answer halted.stop.number halted.stop.reason place count halted.ran.steps → place ≡ place_in tokens count halted.stop.number halted.stop.left
+            → t' ≡ zeros (length tokens) → n' ≡ zeros (length nodes) → k' ≡ zeros (length keys) → w' ≡ zeros (length work) → outcome_at r t' n' k' w' ≡ lexed segwit lengths script (lex_of (length tokens / 3) script)
+        refuses e r place t' n' k' w' a p t n k w =
+            ap (λ (x : outcome.Answer). record { answer = x; tokens = t'; nodes = n'; keys = k'; work = w' }) (a ∙ ap (λ (i : ℕ). refused_answer halted.stop.number halted.stop.reason i count halted.ran.steps) p)
+            ∙ rw (t, n, k, w) (refused_by run.verdict run.steps e ∙ sym lexed_is)
 
-      -- what the tables hold that have to be wiped
-      ended_behind : (v : Verdict) (steps : ℕ) → Ends segwit v steps nodes' keys' ran → (ran.number ≡ 0 → ⊥) → ((9 * ran.nodes ≤ length nodes') × Behind nodes' (9 * ran.nodes)) × ((ran.keys ≤ length keys') × Behind keys' ran.keys)
-      ended_behind (accepted t) steps h e = absurd (e (ap (λ (r : Ran). r.number) h.answers))
-      ended_behind (refused q) steps h e = ((h.the_nodes_in, h.nodes_behind), (h.keys_in, h.keys_behind))
+        -- what the tables hold that have to be wiped
+        ended_behind : (v : Verdict) (steps : ℕ) → Ends segwit v steps nodes' keys' (Err halted) → ((9 * halted.ran.nodes ≤ length nodes') × Behind nodes' (9 * halted.ran.nodes)) × ((halted.ran.keys ≤ length keys') × Behind keys' halted.ran.keys)
+        ended_behind (accepted t) steps h = absurd h
+        ended_behind (refused q) steps h = ((h.the_nodes_in, h.nodes_behind), (h.keys_in, h.keys_behind))
 
-      pub to_wipe : (ran.number ≡ 0 → ⊥) → ((9 * ran.nodes ≤ length nodes') × Behind nodes' (9 * ran.nodes)) × ((ran.keys ≤ length keys') × Behind keys' ran.keys)
-      to_wipe e = ended_behind run.verdict run.steps runs e
+        pub to_wipe : Runs segwit run nodes' keys' (Err halted) → ((9 * halted.ran.nodes ≤ length nodes') × Behind nodes' (9 * halted.ran.nodes)) × ((halted.ran.keys ≤ length keys') × Behind keys' halted.ran.keys)
+        to_wipe e = ended_behind run.verdict run.steps e
 
 -- The whole reader
 

@@ -9,6 +9,8 @@ ghost use Rattle.standard.specs.Outcome.{lexed, outcome_of};
 ghost use Rattle.perform.specs.View.{Behind};
 ghost use Rattle.decode.specs.Read.{answer_of, lengths_of, outcome_at, refused_answer, place_in};
 
+use writes::Stop;
+
 // What the reader answers: document 01's number and reason, 0 where it accepts; the place; and how many tokens, steps,
 // nodes and keys there are.
 #[repr(C)]
@@ -38,20 +40,15 @@ fn refused(number: u32, reason: u32, place: usize, tokens: usize, steps: usize) 
 }
 
 // The place of the token that a refusal is about; 9 and 19 are about none.
-fn place_of(tokens: &[u32], count: usize, number: u32, left: usize) -> usize
+fn place_of(tokens: &[u32], count: usize, stop: Stop) -> usize
     requires { 3 * count ≤ length tokens.now }
-    ensures { result ≡ place_in tokens.now count number left }
+    ensures { result ≡ place_in tokens.now count stop.number stop.left }
 {
-    if number == 9 {
-        return 0;
+    match stop.number {
+        9 | 19 => 0,
+        _ if count <= stop.left => 0,
+        _ => tokens[3 * stop.left + 2] as usize,
     }
-    if number == 19 {
-        return 0;
-    }
-    if count <= left {
-        return 0;
-    }
-    tables::long(tokens[3 * left + 2])
 }
 
 // Clears the front of a table that is clear behind it.
@@ -59,23 +56,7 @@ fn wipe(t: &mut [u32], n: usize)
     requires { (n ≤ length t.old) × Behind t.old n }
     ensures { t.new ≡ zeros (length t.old) }
 {
-    tables::clear(&mut t[..n]);
-}
-
-// Clears the first m nodes.
-fn wipe_nodes(nodes: &mut [u32], m: usize)
-    requires { (9 * m ≤ length nodes.old) × Behind nodes.old (9 * m) }
-    ensures { nodes.new ≡ zeros (length nodes.old) }
-{
-    wipe(nodes, 9 * m);
-}
-
-// Clears the front of a work table that is clear behind it.
-fn wipe_work(work: &mut [u64], n: usize)
-    requires { (n ≤ length work.old) × Behind work.old n }
-    ensures { work.new ≡ zeros (length work.old) }
-{
-    tables::clear_work(&mut work[..n]);
+    t[..n].fill(0);
 }
 
 // The tokens of a script that lexes, decoded. The node table and the key table are clear.
@@ -93,11 +74,9 @@ fn decoded(
     ensures { outcome_at result tokens.new nodes.new keys.new work.new ≡ lexed segwit (lengths_of tokens.old nodes.old keys.old work.old) script.now (lex_of (length tokens.old / 3) script.now) }
 {
     let ran = run::run(segwit, script, tokens, count, nodes, keys, work);
-    // Neither the run nor who lent the table leaves zeros anywhere, so all of it is cleared.
-    let entries = work.len();
-    wipe_work(work, entries);
-    if ran.number == 0 {
-        return Answer {
+    work.fill(0); // All of it: neither the run nor who lent the table leaves zeros anywhere.
+    match ran {
+        Ok(ran) => Answer {
             number: 0,
             reason: 0,
             place: 0,
@@ -105,13 +84,16 @@ fn decoded(
             steps: ran.steps,
             nodes: ran.nodes,
             keys: ran.keys,
-        };
+        },
+        Err(halted) => {
+            let stop = halted.stop;
+            let place = place_of(tokens, count, stop);
+            wipe(tokens, 3 * count);
+            wipe(nodes, 9 * halted.ran.nodes);
+            wipe(keys, halted.ran.keys);
+            refused(stop.number, stop.reason, place, count, halted.ran.steps)
+        }
     }
-    let place = place_of(tokens, count, ran.number, ran.left);
-    wipe(tokens, 3 * count);
-    wipe_nodes(nodes, ran.nodes);
-    wipe(keys, ran.keys);
-    refused(ran.number, ran.reason, place, count, ran.steps)
 }
 
 // Reads a script: its kind (0 segwit, 1 tapscript), its bytes, and four lent tables in; the answer out. The tables end as
@@ -126,18 +108,18 @@ pub fn read(
 ) -> Answer
     ensures { outcome_at result tokens.new nodes.new keys.new work.new ≡ outcome_of kind script.now (lengths_of tokens.old nodes.old keys.old work.old) }
 {
-    tables::clear(nodes);
-    tables::clear(keys);
+    nodes.fill(0);
+    keys.fill(0);
     if 1 < kind {
-        tables::clear(tokens);
-        tables::clear_work(work);
+        tokens.fill(0);
+        work.fill(0);
         return refused(20, 0, 0, 0, 0);
     }
     let lexed = lex::lex(script, tokens);
     match lexed {
         lex::Answer::Tokens(count) => decoded(kind == 0, script, tokens, count, nodes, keys, work),
         lex::Answer::Refused { number, place } => {
-            tables::clear_work(work);
+            work.fill(0);
             refused(number, 0, place, 0, 0)
         }
     }

@@ -24,29 +24,12 @@ pub fn zero_record() -> Node
     }
 }
 
-// What a place of the table holds once a record is stored in it, field by field: each field its own.
-fn entry(n: Node) -> Node
-    ensures { result ≡ n }
-{
-    Node {
-        kind: n.kind,
-        number: n.number,
-        count: n.count,
-        place: n.place,
-        size: n.size,
-        base: n.base,
-        input: n.input,
-        d: n.d,
-        u: n.u,
-    }
-}
-
 // A record is stored.
 pub fn put(records: &mut [Node], i: usize, n: Node)
     requires { i < length records.old }
     ensures { records.new ≡ set records.old i n }
 {
-    records[i] = entry(n);
+    records[i] = n;
 }
 
 // A record is read.
@@ -66,6 +49,7 @@ pub fn clear(records: &mut [Node], i: usize)
 }
 
 // Node number i of a flat table that holds n; behind them, the zero record.
+#[tactic(auto, unfolding(crate::specs::Records::record_at))]
 pub fn record_at(flat: &[u32], n: usize, i: usize) -> Node
     requires { 9 * n ≤ length flat.now }
     ensures { result ≡ record_at flat.now n i }
@@ -92,10 +76,8 @@ pub fn copy_out(flat: &[u32], n: usize, records: &mut [Node])
     requires { (9 * n ≤ length flat.now) × (n ≤ length records.old) }
     ensures { records.new ≡ record_table flat.now n (length records.old) }
 {
-    let mut i = 0;
-    while i < records.len() {
-        records[i] = record_at(flat, n, i);
-        i = i + 1;
+    for (i, record) in records.iter_mut().enumerate() {
+        *record = record_at(flat, n, i);
     }
 }
 
@@ -104,10 +86,7 @@ pub fn copy_in(records: &[Node], flat: &mut [u32])
     requires { 9 * length records.now ≤ length flat.old }
     ensures { flat.new ≡ written_over records.now flat.old }
 {
-    let mut i = 0;
-    while i < records.len() {
-        let v = records[i];
-        node_store::put(&mut *flat, i, v);
-        i = i + 1;
+    for (i, record) in records.iter().enumerate() {
+        node_store::put(flat, i, *record);
     }
 }

@@ -14,11 +14,7 @@ use judge::Node;
 fn node_room(cells: usize, records: usize) -> usize
     ensures { (result ≡ node_room cells records) × ((9 * result ≤ cells) × (result ≤ records)) }
 {
-    let nodes = cells / 9;
-    if records < nodes {
-        return records;
-    }
-    nodes
+    (cells / 9).min(records)
 }
 
 // Clears a table but for its first n numbers.
@@ -26,7 +22,7 @@ fn clear_behind(t: &mut [u32], n: usize)
     requires { n ≤ length t.old }
     ensures { t.new ≡ take n t.old ++ zeros (length t.old - n) }
 {
-    tables::clear(&mut t[n..]);
+    t[n..].fill(0);
 }
 
 // Reads a script into the flat tables, with room for no more nodes than there are records. What lies behind that room is
@@ -47,13 +43,6 @@ fn read_within(
     decode::read(kind, script, tokens, &mut nodes[..front], keys, work)
 }
 
-// How many nodes an answer has: none after a refusal.
-pub fn nodes_of(r: Answer) -> usize
-    ensures { result ≡ r.nodes }
-{
-    r.nodes
-}
-
 // Reads a script: its kind (0 segwit, 1 tapscript), its bytes, and five lent tables in; the answer out. The tables end as
 // document 01 has them, whatever they held before; the records are the nodes of the flat table, and zero records behind.
 pub fn read_records(
@@ -68,8 +57,7 @@ pub fn read_records(
     ensures { record_outcome_at result tokens.new nodes.new records.new keys.new work.new ≡ record_outcome_of kind script.now (lengths_of tokens.old nodes.old keys.old work.old) (length records.old) }
 {
     let room = records.len();
-    let r = read_within(kind, script, tokens, &mut *nodes, keys, work, room);
-    let n = nodes_of(r);
-    node_records::copy_out(&*nodes, n, records);
+    let r = read_within(kind, script, tokens, nodes, keys, work, room);
+    node_records::copy_out(nodes, r.nodes, records);
     r
 }

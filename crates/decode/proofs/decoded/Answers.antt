@@ -11,8 +11,8 @@ run-ran-requires-clause-in_table c = in_table c.args.script.now c.args.tokens.no
 pub run-ran-requires-clause-count_bound : goal.run-ran-requires-clause-count_bound
 run-ran-requires-clause-count_bound c = (tokens_few c.args.script.now c.args.tokens.now c.args.count c.requires.lexes, zeros_are_behind c.args.nodes.now 0 c.requires.nodes_value.0, zeros_are_behind c.args.keys.now 0 c.requires.nodes_value.1)
 
-pub returns-then-ran-eq0 : goal.returns-then-ran-eq0
-returns-then-ran-eq0 c = accepts c.args.script.now c.args.tokens.now c.args.count c.requires.lexes c.args.segwit c.args.nodes.now c.args.keys.now c.args.work.now c.run-ran.new.nodes c.run-ran.new.keys c.run-ran.result c.run-ran.ensures c.run-ran.auto.nodes c.run-ran.auto.keys c.if-ran-eq0.true c.wipe_work.new.work (c.wipe_work.ensures ∙ ap zeros c.run-ran.auto.work)
+pub returns-in-Ok : goal.returns-in-Ok
+returns-in-Ok c = accepts c.args.script.now c.args.tokens.now c.args.count c.requires.lexes c.args.segwit c.args.nodes.now c.args.keys.now c.args.work.now c.run-ran.new.nodes c.run-ran.new.keys c.run-ran.auto.nodes c.run-ran.auto.keys c.in-Ok.ran c.in-Ok.ensures c.fill.new.self (c.fill.ensures.after (λ y e. e) ∙ ap zeros c.run-ran.auto.work)
 
 pub place_of-place-requires : goal.place_of-place-requires
 place_of-place-requires c = tokens_inside c.args.script.now c.args.tokens.now c.args.count c.requires.lexes
@@ -23,5 +23,5 @@ overflow_mul-count c = omega (arith, tokens_few c.args.script.now c.args.tokens.
 pub wipe-requires : goal.wipe-requires
 wipe-requires c = (tokens_inside c.args.script.now c.args.tokens.now c.args.count c.requires.lexes, tokens_behind c.args.script.now c.args.tokens.now c.args.count c.requires.lexes)
 
-pub returns : goal.returns
-returns c = refuses c.args.script.now c.args.tokens.now c.args.count c.requires.lexes c.args.segwit c.args.nodes.now c.args.keys.now c.args.work.now c.run-ran.new.nodes c.run-ran.new.keys c.run-ran.result c.run-ran.ensures c.run-ran.auto.nodes c.run-ran.auto.keys c.if-ran-eq0.false c.refused.result c.place_of-place.result _ _ _ _ c.refused.ensures c.place_of-place.ensures c.wipe.ensures (c.wipe_nodes.ensures ∙ ap zeros c.run-ran.auto.nodes) (c.wipe-2.ensures ∙ ap zeros c.run-ran.auto.keys) (c.wipe_work.ensures ∙ ap zeros c.run-ran.auto.work)
+pub returns-in-Err : goal.returns-in-Err
+returns-in-Err c = refuses c.args.script.now c.args.tokens.now c.args.count c.requires.lexes c.args.segwit c.args.nodes.now c.args.keys.now c.args.work.now c.run-ran.new.nodes c.run-ran.new.keys c.run-ran.auto.nodes c.run-ran.auto.keys c.in-Err.halted c.in-Err.ensures c.refused.result c.place_of-place.result _ _ _ _ c.refused.ensures c.place_of-place.ensures c.wipe.ensures (c.wipe-in-Err.ensures ∙ ap zeros c.run-ran.auto.nodes) (c.wipe-in-Err-2.ensures ∙ ap zeros c.run-ran.auto.keys) (c.fill.ensures.after (λ y e. e) ∙ ap zeros c.run-ran.auto.work)

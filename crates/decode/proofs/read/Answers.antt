@@ -4,10 +4,10 @@ use Rattle.decode.proofs.read.Goals as goal
 use mathlib.Core.Path.{refl}
 
 pub returns-then-kind-gt1 : goal.returns-then-kind-gt1
-returns-then-kind-gt1 c = unknown_kind c.args.kind c.args.script.now c.args.tokens.now c.args.nodes.now c.args.keys.now c.args.work.now c.if-kind-gt1.true c.refused.result _ _ _ _ c.refused.ensures c.clear-then-kind-gt1.ensures c.clear.ensures c.clear-2.ensures c.clear_work.ensures
+returns-then-kind-gt1 c = unknown_kind c.args.kind c.args.script.now c.args.tokens.now c.args.nodes.now c.args.keys.now c.args.work.now c.if-kind-gt1.true c.refused.result _ _ _ _ c.refused.ensures (c.fill-then-kind-gt1.ensures.after (λ y e. e)) (c.fill.ensures.after (λ y e. e)) (c.fill-2.ensures.after (λ y e. e)) (c.fill-then-kind-gt1-2.ensures.after (λ y e. e))
 
 pub returns-in-Tokens : goal.returns-in-Tokens
-returns-in-Tokens c = read_on_lem c.args.kind c.args.script.now c.args.tokens.now c.args.nodes.now c.args.keys.now c.args.work.now c.if-kind-gt1.false _ c.lex-lexed.new.t c.clear.new.t c.clear-2.new.t c.args.work.now c.lex-lexed.auto.t c.clear.auto.t c.clear-2.auto.t refl c.decoded.ensures
+returns-in-Tokens c = read_on_lem c.args.kind c.args.script.now c.args.tokens.now c.args.nodes.now c.args.keys.now c.args.work.now c.if-kind-gt1.false _ c.lex-lexed.new.t c.fill.new.self c.fill-2.new.self c.args.work.now c.lex-lexed.auto.t c.fill.auto.self c.fill-2.auto.self refl c.decoded.ensures
 
 pub returns-in-Refused : goal.returns-in-Refused
-returns-in-Refused c = not_lexed c.args.kind c.args.script.now c.args.tokens.now c.args.nodes.now c.args.keys.now c.args.work.now c.if-kind-gt1.false _ _ c.refused-in-Refused.result _ _ _ _ (lexes_not c.args.script.now c.args.tokens.now c.lex-lexed.new.t _ _ c.lex-lexed.ensures c.in-Refused.is) c.refused-in-Refused.ensures c.clear.ensures c.clear-2.ensures c.clear_work-in-Refused.ensures
+returns-in-Refused c = not_lexed c.args.kind c.args.script.now c.args.tokens.now c.args.nodes.now c.args.keys.now c.args.work.now c.if-kind-gt1.false _ _ c.refused-in-Refused.result _ _ _ _ (lexes_not c.args.script.now c.args.tokens.now c.lex-lexed.new.t _ _ c.lex-lexed.ensures c.in-Refused.is) c.refused-in-Refused.ensures (c.fill.ensures.after (λ y e. e)) (c.fill-2.ensures.after (λ y e. e)) (c.fill-in-Refused.ensures.after (λ y e. e))
