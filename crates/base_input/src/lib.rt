@@ -2,7 +2,7 @@
 // src/miniscript/types/correctness.rs. Each two-input table is a function of its own.
 #![tactic(auto)]
 
-ghost use Rattle.std.specs.Prelude.{◌≡◌, ◌&&◌, ◌||◌, eqb};
+ghost use Rattle.std.specs.Prelude.{◌≡◌, eqb};
 ghost use Rattle.tables.specs.Choose.{pick};
 ghost use Rattle.base_input.specs.Numbers.{base_number, base_of, input_number, input_of};
 ghost use Rattle.base_input.specs.Tests.{is_b, is_k, is_v, is_w, equal_bkv, is_zero, takes_one, top_non_zero};
@@ -31,25 +31,6 @@ pub enum Input {
     OneNonZero,
     // One or more; the top one nonzero where the fragment is satisfied.
     AnyNonZero,
-}
-
-// A `&&` that has a value of its own, so that a contract can name it.
-pub fn both(a: bool, b: bool) -> bool
-    ensures { result ≡ (a && b) }
-{
-    if a {
-        return b;
-    }
-    false
-}
-
-pub fn either(a: bool, b: bool) -> bool
-    ensures { result ≡ (a || b) }
-{
-    if a {
-        return true;
-    }
-    b
 }
 
 impl Base {

@@ -1,4 +1,3 @@
--- Laws that the proofs of the functions cite.
-pub mod Checks
+-- Laws behind the theorems of specs/.
 pub mod SanityLaws
 pub mod Bip379Laws
