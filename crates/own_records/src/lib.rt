@@ -53,6 +53,5 @@ pub fn written_again(
         &mut *keys,
         &mut *work,
     );
-    let n = read_records::nodes_of(a);
-    encode_records::encode_records(kind, &records[..n], nodes, &*keys, script, work, out)
+    encode_records::encode_records(kind, &records[..a.nodes], nodes, keys, script, work, out)
 }
