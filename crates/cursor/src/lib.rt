@@ -11,76 +11,53 @@ pub struct Cursor {
     pub left: usize,
 }
 
-// The next token, or none is left.
+// A token, as its three numbers in the table.
 #[derive(Clone, Copy)]
-pub enum NextToken {
-    Nothing,
-    Token { code: u32, number: u32, place: u32 },
+pub struct Token {
+    pub code: u32,
+    pub number: u32,
+    pub place: u32,
 }
 
-// A token that was taken, and how many are left after it.
+// The token that was taken, if any was left, and how many are left after it.
 #[derive(Clone, Copy)]
 pub struct Took {
-    pub token: NextToken,
+    pub token: Option<Token>,
     pub left: usize,
 }
 
 // The last of the tokens left, in a table with three numbers for each.
-fn last_token(tokens: &[u32], left: usize) -> NextToken
+fn last_token(tokens: &[u32], left: usize) -> Option<Token>
     requires { 3 * left ≤ length tokens.now }
     ensures { result ≡ next_of tokens.now left }
 {
     if left == 0 {
-        return NextToken::Nothing;
+        return None;
     }
     let i = 3 * (left - 1);
-    NextToken::Token {
+    Some(Token {
         code: tokens[i],
         number: tokens[i + 1],
         place: tokens[i + 2],
-    }
-}
-
-// One less, and none below none.
-fn one_less(left: usize) -> usize
-    ensures { result ≡ left - 1 }
-{
-    if 0 < left {
-        return left - 1;
-    }
-    0
-}
-
-fn one_more(left: usize) -> usize
-    requires { left + 1 < 2 ^ 64 }
-    ensures { result ≡ left + 1 }
-{
-    left + 1
-}
-
-fn token_and_left(token: NextToken, left: usize) -> Took
-    ensures { result ≡ took_of token left }
-{
-    Took { token, left }
+    })
 }
 
 // The next token is taken.
-pub fn next(c: &mut Cursor, tokens: &[u32]) -> NextToken
+pub fn next(c: &mut Cursor, tokens: &[u32]) -> Option<Token>
     requires { 3 * c.old.left ≤ length tokens.now }
     ensures { (result ≡ next_of tokens.now c.old.left) × (c.new.left ≡ c.old.left - 1) }
 {
     let left = c.left;
-    c.left = one_less(left);
+    c.left = left.saturating_sub(1);
     last_token(tokens, left)
 }
 
 // The next token is looked at.
-pub fn peek(c: &Cursor, tokens: &[u32]) -> NextToken
+pub fn peek(c: &Cursor, tokens: &[u32]) -> Option<Token>
     requires { 3 * c.now.left ≤ length tokens.now }
     ensures { result ≡ next_of tokens.now c.now.left }
 {
-    let left = c.left;
-    last_token(tokens, left)
+    last_token(tokens, c.left)
 }
 
 // The token that was taken last is put back. One was taken: the table holds one more than are left.
@@ -88,8 +65,7 @@ pub fn un_next(c: &mut Cursor, tokens: &[u32])
     requires { 3 * (c.old.left + 1) ≤ length tokens.now }
     ensures { c.new.left ≡ c.old.left + 1 }
 {
-    let left = c.left;
-    c.left = one_more(left);
+    c.left += 1;
 }
 
 // `next` on a cursor of one's own.
@@ -99,12 +75,14 @@ pub fn take(tokens: &[u32], left: usize) -> Took
 {
     let mut c = Cursor { left };
     let token = next(&mut c, tokens);
-    let rest = c.left;
-    token_and_left(token, rest)
+    Took {
+        token,
+        left: c.left,
+    }
 }
 
 // `peek` at a cursor of one's own.
-pub fn look(tokens: &[u32], left: usize) -> NextToken
+pub fn look(tokens: &[u32], left: usize) -> Option<Token>
     requires { 3 * left ≤ length tokens.now }
     ensures { result ≡ next_of tokens.now left }
 {

@@ -19,175 +19,132 @@ use row::token::{
     CHECK_SEQUENCE_VERIFY, CHECK_SIG, END_IF, EQUAL, HASH20, NUM, NUM_EQUAL, VERIFY,
     ZERO_NOT_EQUAL,
 };
-use row::{Found, NonTerm, Row, Taken, kind, next, un_next};
+use row::{Found, NonTerm, Refused, Row, ask, kind, next, refuse, un_next};
 
 // EQUAL VERIFY: a hash lock or a raw key hash, or a thresh under v:.
-fn after_verify_equal(tokens: &[u32], left: usize) -> Found
+fn after_verify_equal(tokens: &[u32], left: usize) -> Result<Found, Refused>
     requires { InTable tokens.now left }
     ensures { Told point.afterVerifyEqual tokens.now left result }
 {
-    let taken = next(tokens, left);
-    let Taken::Token {
-        code,
-        number,
-        place,
-        left: rest,
-    } = taken
-    else {
-        return Found {
-            left: 0,
-            row: Row::Refused(9),
-        };
-    };
-    match code {
-        HASH20 => after_verify_equal_hash20(tokens, rest, place + 1),
-        BYTES32 => after_bytes32(tokens, rest, true, place + 1),
-        NUM => Found {
-            left: rest,
-            row: Row::Enter2(NonTerm::Verify, NonTerm::ThreshW { k: number, n: 0 }),
-        },
-        _ => Found {
-            left: rest,
-            row: Row::Refused(10),
-        },
+    let token = next(tokens, left)?;
+    match token.code {
+        HASH20 => after_verify_equal_hash20(tokens, token.left, token.place + 1),
+        BYTES32 => after_bytes32(tokens, token.left, true, token.place + 1),
+        NUM => ask(
+            Row::Enter2(
+                NonTerm::Verify,
+                NonTerm::ThreshW {
+                    k: token.number,
+                    n: 0,
+                },
+            ),
+            token.left,
+        ),
+        _ => refuse(10, token.left),
     }
 }
 
 // VERIFY.
-fn after_verify(tokens: &[u32], left: usize) -> Found
+fn after_verify(tokens: &[u32], left: usize) -> Result<Found, Refused>
     requires { InTable tokens.now left }
     ensures { Told point.afterVerify tokens.now left result }
 {
-    let taken = next(tokens, left);
-    let Taken::Token {
-        code,
-        left: rest,
-        ..
-    } = taken
-    else {
-        return Found {
-            left: 0,
-            row: Row::Refused(9),
-        };
-    };
-    match code {
-        EQUAL => after_verify_equal(tokens, rest),
-        _ => Found {
-            left: un_next(tokens, rest),
-            row: Row::Enter2(NonTerm::Verify, NonTerm::Expression),
-        },
+    let token = next(tokens, left)?;
+    match token.code {
+        EQUAL => after_verify_equal(tokens, token.left),
+        _ => ask(
+            Row::Enter2(NonTerm::Verify, NonTerm::Expression),
+            un_next(tokens, token.left),
+        ),
     }
 }
 
 // EQUAL: a hash lock or a thresh.
-fn after_equal(tokens: &[u32], left: usize) -> Found
+fn after_equal(tokens: &[u32], left: usize) -> Result<Found, Refused>
     requires { InTable tokens.now left }
     ensures { Told point.afterEqual tokens.now left result }
 {
-    let taken = next(tokens, left);
-    let Taken::Token {
-        code,
-        number,
-        place,
-        left: rest,
-    } = taken
-    else {
-        return Found {
-            left: 0,
-            row: Row::Refused(9),
-        };
-    };
-    match code {
-        BYTES32 => after_bytes32(tokens, rest, false, place + 1),
-        HASH20 => after_equal_hash20(tokens, rest, place + 1),
+    let token = next(tokens, left)?;
+    match token.code {
+        BYTES32 => after_bytes32(tokens, token.left, false, token.place + 1),
+        HASH20 => after_equal_hash20(tokens, token.left, token.place + 1),
         // No Expression is entered here: ThreshW looks for ADD.
-        NUM => Found {
-            left: rest,
-            row: Row::Enter1(NonTerm::ThreshW { k: number, n: 0 }),
-        },
-        _ => Found {
-            left: rest,
-            row: Row::Refused(10),
-        },
+        NUM => ask(
+            Row::Enter1(NonTerm::ThreshW {
+                k: token.number,
+                n: 0,
+            }),
+            token.left,
+        ),
+        _ => refuse(10, token.left),
     }
 }
 
 // A number alone.
-fn number_alone(n: u32, left: usize) -> Found
-    ensures { result ≡ record { left = left; row = number_row n } }
+fn number_alone(n: u32, left: usize) -> Result<Found, Refused>
+    ensures { result ≡ number_row n left }
 {
     match n {
-        0 => Found {
-            left,
-            row: Row::Leaf {
+        0 => ask(
+            Row::Leaf {
                 kind: kind::FALSE,
                 number: 0,
                 place: 0,
                 verify: false,
             },
-        },
-        1 => Found {
             left,
-            row: Row::Leaf {
+        ),
+        1 => ask(
+            Row::Leaf {
                 kind: kind::TRUE,
                 number: 0,
                 place: 0,
                 verify: false,
             },
-        },
-        _ => Found {
             left,
-            row: Row::Refused(10),
-        },
+        ),
+        _ => refuse(10, left),
     }
 }
 
 // The fragments whose last token only enters what they are made of.
-fn fragment(code: u32) -> Row
-    ensures { result ≡ fragment_row code }
+fn fragment(code: u32, left: usize) -> Result<Found, Refused>
+    ensures { result ≡ fragment_row code left }
 {
-    match code {
+    let row = match code {
         CHECK_SIG => Row::Enter2(NonTerm::Check, NonTerm::Expression),
         ZERO_NOT_EQUAL => Row::Enter2(NonTerm::ZeroNotEqual, NonTerm::Expression),
         END_IF => Row::Enter3(NonTerm::EndIf, NonTerm::MaybeAndV, NonTerm::Expression),
         BOOL_AND => Row::Enter3(NonTerm::AndB, NonTerm::Expression, NonTerm::WExpression),
         BOOL_OR => Row::Enter3(NonTerm::OrB, NonTerm::Expression, NonTerm::WExpression),
-        _ => Row::Refused(10),
-    }
+        _ => return refuse(10, left),
+    };
+    ask(row, left)
 }
 
 // The row of Expression.
-pub fn expression(segwit: bool, script: &[u8], tokens: &[u32], left: usize) -> Found
+pub fn expression(
+    segwit: bool,
+    script: &[u8],
+    tokens: &[u32],
+    left: usize,
+) -> Result<Found, Refused>
     requires { InTable tokens.now left }
     ensures { reading_of script.now tokens.now result ≡ row_from segwit point.inExpression script.now tokens.now left }
 {
-    let taken = next(tokens, left);
-    let Taken::Token {
-        code,
-        number,
-        place,
-        left: rest,
-    } = taken
-    else {
-        return Found {
-            left: 0,
-            row: Row::Refused(9),
-        };
-    };
-    match code {
-        BYTES33 => pk_k(segwit, script, code, place + 1, rest),
-        BYTES65 => pk_k(segwit, script, code, place + 1, rest),
-        BYTES32 => pk_k(segwit, script, code, place + 1, rest),
-        VERIFY => after_verify(tokens, rest),
-        CHECK_SEQUENCE_VERIFY => after_check_sequence_verify(tokens, rest),
-        CHECK_LOCK_TIME_VERIFY => after_check_lock_time_verify(tokens, rest),
-        EQUAL => after_equal(tokens, rest),
-        NUM => number_alone(number, rest),
-        CHECK_MULTI_SIG => after_check_multi_sig(segwit, script, tokens, rest),
-        NUM_EQUAL => after_num_equal(segwit, tokens, rest),
-        _ => Found {
-            left: rest,
-            row: fragment(code),
-        },
+    let token = next(tokens, left)?;
+    match token.code {
+        // An arm each: in one for all three only the codes' range is known, and the proof by the row's cases didn't close.
+        BYTES33 => pk_k(segwit, script, token.code, token.place + 1, token.left),
+        BYTES65 => pk_k(segwit, script, token.code, token.place + 1, token.left),
+        BYTES32 => pk_k(segwit, script, token.code, token.place + 1, token.left),
+        VERIFY => after_verify(tokens, token.left),
+        CHECK_SEQUENCE_VERIFY => after_check_sequence_verify(tokens, token.left),
+        CHECK_LOCK_TIME_VERIFY => after_check_lock_time_verify(tokens, token.left),
+        EQUAL => after_equal(tokens, token.left),
+        NUM => number_alone(token.number, token.left),
+        CHECK_MULTI_SIG => after_check_multi_sig(segwit, script, tokens, token.left),
+        NUM_EQUAL => after_num_equal(segwit, tokens, token.left),
+        _ => fragment(token.code, token.left),
     }
 }

@@ -16,7 +16,7 @@ ghost use Rattle.locks.specs.Leaves.{key_at, key_row, time_row};
 use row::token::{
     BYTES32, BYTES33, DUP, EQUAL, HASH160, HASH256, NUM, RIPEMD160, SHA256, SIZE, VERIFY,
 };
-use row::{Found, Hash, Row, Taken, kind, next};
+use row::{Found, Hash, Refused, Row, ask, kind, next, refuse};
 
 // The key form: segwit 33 bytes starting 02 or 03; tapscript any 32 bytes.
 pub fn key_form(segwit: bool, script: &[u8], code: u32, offset: u32) -> bool
@@ -25,123 +25,85 @@ pub fn key_form(segwit: bool, script: &[u8], code: u32, offset: u32) -> bool
     if !segwit {
         return code == BYTES32;
     }
-    if code != BYTES33 {
-        return false;
-    }
-    let i = offset as usize;
-    if script.len() <= i {
-        return false;
-    }
-    match script[i] {
-        2 => true,
-        3 => true,
-        _ => false,
-    }
+    code == BYTES33 && matches!(script.get(offset as usize), Some(2 | 3))
 }
 
 // A key alone.
-pub fn pk_k(segwit: bool, script: &[u8], code: u32, offset: u32, left: usize) -> Found
-    ensures { result ≡ record { left = left; row = key_row (key_form segwit (key_at script.now code offset)) offset } }
+pub fn pk_k(
+    segwit: bool,
+    script: &[u8],
+    code: u32,
+    offset: u32,
+    left: usize,
+) -> Result<Found, Refused>
+    ensures { result ≡ key_row (key_form segwit (key_at script.now code offset)) offset left }
 {
     if !key_form(segwit, script, code, offset) {
-        return Found {
-            left,
-            row: Row::Refused(11),
-        };
+        return refuse(11, left);
     }
-    Found {
-        left,
-        row: Row::Leaf {
+    ask(
+        Row::Leaf {
             kind: kind::PK_K,
             number: 0,
             place: offset,
             verify: false,
         },
-    }
+        left,
+    )
 }
 
 // Locktimes are 1 to 2,147,483,647.
 fn locktime(n: u32) -> bool
     ensures { result ≡ allowed.locktime n }
 {
-    if n < 1 {
-        return false;
-    }
-    n <= 2147483647
+    1 <= n && n <= 2147483647
 }
 
-fn timelock(kind: u32, n: u32, left: usize) -> Found
-    ensures { result ≡ record { left = left; row = time_row kind n } }
+#[tactic(auto, unfolding(crate::specs::Leaves::time_row))]
+fn timelock(kind: u32, n: u32, left: usize) -> Result<Found, Refused>
+    ensures { result ≡ time_row kind n left }
 {
     if !locktime(n) {
-        return Found {
-            left,
-            row: Row::Refused(12),
-        };
+        return refuse(12, left);
     }
-    Found {
-        left,
-        row: Row::Leaf {
+    ask(
+        Row::Leaf {
             kind,
             number: n,
             place: 0,
             verify: false,
         },
+        left,
+    )
+}
+
+// The number of older or after, whose opcode is CHECKSEQUENCEVERIFY or CHECKLOCKTIMEVERIFY.
+fn before_timelock(tokens: &[u32], left: usize, kind: u32) -> Result<Found, Refused>
+    requires { InTable tokens.now left }
+    ensures older { kind ≡ 7 → Told point.afterCheckSequenceVerify tokens.now left result }
+    ensures after { kind ≡ 6 → Told point.afterCheckLockTimeVerify tokens.now left result }
+{
+    let token = next(tokens, left)?;
+    match token.code {
+        NUM => timelock(kind, token.number, token.left),
+        _ => refuse(10, token.left),
     }
 }
 
 // older: CHECKSEQUENCEVERIFY, and before it the number.
-pub fn after_check_sequence_verify(tokens: &[u32], left: usize) -> Found
+pub fn after_check_sequence_verify(tokens: &[u32], left: usize) -> Result<Found, Refused>
     requires { InTable tokens.now left }
     ensures { Told point.afterCheckSequenceVerify tokens.now left result }
 {
-    let taken = next(tokens, left);
-    let Taken::Token {
-        code,
-        number,
-        left: rest,
-        ..
-    } = taken
-    else {
-        return Found {
-            left: 0,
-            row: Row::Refused(9),
-        };
-    };
-    match code {
-        NUM => timelock(kind::OLDER, number, rest),
-        _ => Found {
-            left: rest,
-            row: Row::Refused(10),
-        },
-    }
+    before_timelock(tokens, left, kind::OLDER)
 }
 
 // after: CHECKLOCKTIMEVERIFY, and before it the number.
-pub fn after_check_lock_time_verify(tokens: &[u32], left: usize) -> Found
+pub fn after_check_lock_time_verify(tokens: &[u32], left: usize) -> Result<Found, Refused>
     requires { InTable tokens.now left }
     ensures { Told point.afterCheckLockTimeVerify tokens.now left result }
 {
-    let taken = next(tokens, left);
-    let Taken::Token {
-        code,
-        number,
-        left: rest,
-        ..
-    } = taken
-    else {
-        return Found {
-            left: 0,
-            row: Row::Refused(9),
-        };
-    };
-    match code {
-        NUM => timelock(kind::AFTER, number, rest),
-        _ => Found {
-            left: rest,
-            row: Row::Refused(10),
-        },
-    }
+    before_timelock(tokens, left, kind::AFTER)
 }
 
 // The kind of a hash lock.
@@ -158,238 +120,155 @@ fn hash_kind(hash: Hash) -> u32
 
 // Any hash lock is SIZE 32 EQUAL VERIFY, its hash's opcode and the hash; `verify` says whether v: stands over it.
 // SIZE, its first token.
-fn lock_size(tokens: &[u32], left: usize, verify: bool, hash: Hash, offset: u32) -> Found
+fn lock_size(
+    tokens: &[u32],
+    left: usize,
+    verify: bool,
+    hash: Hash,
+    offset: u32,
+) -> Result<Found, Refused>
     requires { InTable tokens.now left }
     ensures { ToldOf (point.lockSize verify (hash_of hash)) offset tokens.now left result }
 {
-    let taken = next(tokens, left);
-    let Taken::Token {
-        code,
-        left: rest,
-        ..
-    } = taken
-    else {
-        return Found {
-            left: 0,
-            row: Row::Refused(9),
-        };
-    };
-    match code {
-        SIZE => Found {
-            left: rest,
-            row: Row::Leaf {
+    let token = next(tokens, left)?;
+    match token.code {
+        SIZE => ask(
+            Row::Leaf {
                 kind: hash_kind(hash),
                 number: 0,
                 place: offset,
                 verify,
             },
-        },
-        _ => Found {
-            left: rest,
-            row: Row::Refused(10),
-        },
+            token.left,
+        ),
+        _ => refuse(10, token.left),
     }
 }
 
 // The number 32.
-fn lock_32(tokens: &[u32], left: usize, verify: bool, hash: Hash, offset: u32) -> Found
+fn lock_32(
+    tokens: &[u32],
+    left: usize,
+    verify: bool,
+    hash: Hash,
+    offset: u32,
+) -> Result<Found, Refused>
     requires { InTable tokens.now left }
     ensures { ToldOf (point.lock32 verify (hash_of hash)) offset tokens.now left result }
 {
-    let taken = next(tokens, left);
-    let Taken::Token {
-        code,
-        number,
-        left: rest,
-        ..
-    } = taken
-    else {
-        return Found {
-            left: 0,
-            row: Row::Refused(9),
-        };
-    };
-    match code {
+    let token = next(tokens, left)?;
+    match token.code {
         NUM => {
-            if number == 32 {
-                return lock_size(tokens, rest, verify, hash, offset);
+            if token.number == 32 {
+                return lock_size(tokens, token.left, verify, hash, offset);
             }
-            Found {
-                left: rest,
-                row: Row::Refused(10),
-            }
+            refuse(10, token.left)
         }
-        _ => Found {
-            left: rest,
-            row: Row::Refused(10),
-        },
+        _ => refuse(10, token.left),
     }
 }
 
 // EQUAL.
-fn lock_equal(tokens: &[u32], left: usize, verify: bool, hash: Hash, offset: u32) -> Found
+fn lock_equal(
+    tokens: &[u32],
+    left: usize,
+    verify: bool,
+    hash: Hash,
+    offset: u32,
+) -> Result<Found, Refused>
     requires { InTable tokens.now left }
     ensures { ToldOf (point.lockEqual verify (hash_of hash)) offset tokens.now left result }
 {
-    let taken = next(tokens, left);
-    let Taken::Token {
-        code,
-        left: rest,
-        ..
-    } = taken
-    else {
-        return Found {
-            left: 0,
-            row: Row::Refused(9),
-        };
-    };
-    match code {
-        EQUAL => lock_32(tokens, rest, verify, hash, offset),
-        _ => Found {
-            left: rest,
-            row: Row::Refused(10),
-        },
+    let token = next(tokens, left)?;
+    match token.code {
+        EQUAL => lock_32(tokens, token.left, verify, hash, offset),
+        _ => refuse(10, token.left),
     }
 }
 
 // VERIFY.
-fn lock_verify(tokens: &[u32], left: usize, verify: bool, hash: Hash, offset: u32) -> Found
+fn lock_verify(
+    tokens: &[u32],
+    left: usize,
+    verify: bool,
+    hash: Hash,
+    offset: u32,
+) -> Result<Found, Refused>
     requires { InTable tokens.now left }
     ensures { ToldOf (point.lockVerify verify (hash_of hash)) offset tokens.now left result }
 {
-    let taken = next(tokens, left);
-    let Taken::Token {
-        code,
-        left: rest,
-        ..
-    } = taken
-    else {
-        return Found {
-            left: 0,
-            row: Row::Refused(9),
-        };
-    };
-    match code {
-        VERIFY => lock_equal(tokens, rest, verify, hash, offset),
-        _ => Found {
-            left: rest,
-            row: Row::Refused(10),
-        },
+    let token = next(tokens, left)?;
+    match token.code {
+        VERIFY => lock_equal(tokens, token.left, verify, hash, offset),
+        _ => refuse(10, token.left),
     }
 }
 
 // EQUAL, or EQUAL VERIFY, and before it 32 bytes.
-pub fn after_bytes32(tokens: &[u32], left: usize, verify: bool, offset: u32) -> Found
+pub fn after_bytes32(
+    tokens: &[u32],
+    left: usize,
+    verify: bool,
+    offset: u32,
+) -> Result<Found, Refused>
     requires { InTable tokens.now left }
     ensures { ToldOf (point.after_bytes32 verify) offset tokens.now left result }
 {
-    let taken = next(tokens, left);
-    let Taken::Token {
-        code,
-        left: rest,
-        ..
-    } = taken
-    else {
-        return Found {
-            left: 0,
-            row: Row::Refused(9),
-        };
-    };
-    match code {
-        SHA256 => lock_verify(tokens, rest, verify, Hash::Sha256, offset),
-        HASH256 => lock_verify(tokens, rest, verify, Hash::Hash256, offset),
-        _ => Found {
-            left: rest,
-            row: Row::Refused(10),
-        },
+    let token = next(tokens, left)?;
+    match token.code {
+        SHA256 => lock_verify(tokens, token.left, verify, Hash::Sha256, offset),
+        HASH256 => lock_verify(tokens, token.left, verify, Hash::Hash256, offset),
+        _ => refuse(10, token.left),
     }
 }
 
 // EQUAL, and before it 20 bytes.
-pub fn after_equal_hash20(tokens: &[u32], left: usize, offset: u32) -> Found
+pub fn after_equal_hash20(tokens: &[u32], left: usize, offset: u32) -> Result<Found, Refused>
     requires { InTable tokens.now left }
     ensures { ToldOf point.afterEqualHash20 offset tokens.now left result }
 {
-    let taken = next(tokens, left);
-    let Taken::Token {
-        code,
-        left: rest,
-        ..
-    } = taken
-    else {
-        return Found {
-            left: 0,
-            row: Row::Refused(9),
-        };
-    };
-    match code {
-        RIPEMD160 => lock_verify(tokens, rest, false, Hash::Ripemd160, offset),
-        HASH160 => lock_verify(tokens, rest, false, Hash::Hash160, offset),
-        _ => Found {
-            left: rest,
-            row: Row::Refused(10),
-        },
+    let token = next(tokens, left)?;
+    match token.code {
+        RIPEMD160 => lock_verify(tokens, token.left, false, Hash::Ripemd160, offset),
+        HASH160 => lock_verify(tokens, token.left, false, Hash::Hash160, offset),
+        _ => refuse(10, token.left),
     }
 }
 
 // HASH160, 20 bytes, EQUAL and VERIFY: a raw key hash, or a hash lock under v:.
-fn after_verify_equal_hash20_hash160(tokens: &[u32], left: usize, offset: u32) -> Found
+fn after_verify_equal_hash20_hash160(
+    tokens: &[u32],
+    left: usize,
+    offset: u32,
+) -> Result<Found, Refused>
     requires { InTable tokens.now left }
     ensures { ToldOf point.afterVerifyEqualHash20Hash160 offset tokens.now left result }
 {
-    let taken = next(tokens, left);
-    let Taken::Token {
-        code,
-        left: rest,
-        ..
-    } = taken
-    else {
-        return Found {
-            left: 0,
-            row: Row::Refused(9),
-        };
-    };
-    match code {
-        DUP => Found {
-            left: rest,
-            row: Row::Leaf {
+    let token = next(tokens, left)?;
+    match token.code {
+        DUP => ask(
+            Row::Leaf {
                 kind: kind::RAW_PK_H,
                 number: 0,
                 place: offset,
                 verify: false,
             },
-        },
-        VERIFY => lock_equal(tokens, rest, true, Hash::Hash160, offset),
-        _ => Found {
-            left: rest,
-            row: Row::Refused(10),
-        },
+            token.left,
+        ),
+        VERIFY => lock_equal(tokens, token.left, true, Hash::Hash160, offset),
+        _ => refuse(10, token.left),
     }
 }
 
 // EQUAL VERIFY, and before it 20 bytes.
-pub fn after_verify_equal_hash20(tokens: &[u32], left: usize, offset: u32) -> Found
+pub fn after_verify_equal_hash20(tokens: &[u32], left: usize, offset: u32) -> Result<Found, Refused>
     requires { InTable tokens.now left }
     ensures { ToldOf point.afterVerifyEqualHash20 offset tokens.now left result }
 {
-    let taken = next(tokens, left);
-    let Taken::Token {
-        code,
-        left: rest,
-        ..
-    } = taken
-    else {
-        return Found {
-            left: 0,
-            row: Row::Refused(9),
-        };
-    };
-    match code {
-        HASH160 => after_verify_equal_hash20_hash160(tokens, rest, offset),
-        RIPEMD160 => lock_verify(tokens, rest, true, Hash::Ripemd160, offset),
-        _ => Found {
-            left: rest,
-            row: Row::Refused(10),
-        },
+    let token = next(tokens, left)?;
+    match token.code {
+        HASH160 => after_verify_equal_hash20_hash160(tokens, token.left, offset),
+        RIPEMD160 => lock_verify(tokens, token.left, true, Hash::Ripemd160, offset),
+        _ => refuse(10, token.left),
     }
 }

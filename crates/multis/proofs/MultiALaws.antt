@@ -7,7 +7,8 @@ use Prim.Native.Nat.{ℕ, zero, suc, ◌+◌, ◌*◌, ◌≤◌, ◌<◌}
 use native.Mathlib.Omega.{arith}
 use lib.ListN.{length, get_or}
 use lib.Dec.{eqb, leb}
-use borrow.Author.Tests.{le-leb, eqb-true, eqb-false, not-true, not-false}
+use borrow.Author.Tests.{le-leb, eqb-true, eqb-false, not-false}
+use Rattle.std.specs.Prelude.{Option, None, Some, Result, Ok, Err}
 use Rattle.tables.specs.Choose.{pick}
 use Rattle.lex.specs.Token.{Data, data_at, push, CHECKSIGADD, BYTES32}
 use Rattle.standard.specs.Tree.{MultiA}
@@ -17,16 +18,13 @@ use Rattle.standard.specs.Table.{data_places}
 use Rattle.standard.specs.Rows.{multiAKeys, afterCheckSigAdd, afterCheckSig, read_on, refuse, make, makes}
 use Rattle.row.specs.declared.Row.TheVariants as row
 use Rattle.row.specs.declared.Found.{Found}
+use Rattle.row.specs.declared.Refused.{Refused}
 use Rattle.row.specs.declared.Taken.{Taken}
-use Rattle.row.specs.declared.Taken.TheVariants as taken
-use Rattle.row.specs.declared.Ahead.{Ahead}
-use Rattle.row.specs.declared.Ahead.TheVariants as ahead
 use Rattle.row.specs.Tokens.{token_at, lexemes_left, taken_of, ahead_of, InTable}
-use Rattle.row.specs.Request.{Request, refused, keys_node, reading, asked, offsets_from, reading_of}
+use Rattle.row.specs.Request.{Request, Reading, refused, keys_node, reading, asked, offsets_from, refused_at, reading_of}
 use Rattle.row.specs.Told.{row_from}
-use Rattle.row.proofs.TakenLaws.{at_left, row_pick, left_is, led, dry, arm, onward, unfit}
-use Rattle.multis.specs.declared.AddedKey.{AddedKey}
-use Rattle.multis.specs.Keys.{datas_from, is_check_sig_add, added_refusal, added_by, added_after, added_key_of, multi_a_row, ToldMultiA}
+use Rattle.row.proofs.TakenLaws.{row_pick, left_is, led, dry, arm, onward, unfit}
+use Rattle.multis.specs.Keys.{datas_from, is_check_sig_add, added_refusal, left_behind, added_key_of, multi_a_row, ToldMultiA}
 
 -- the keys, as the row hands them on
 data_offsets : (script table : List ℕ) (n i : ℕ) → data_places (datas_from script table n i) ≡ offsets_from table n i 2
@@ -40,13 +38,13 @@ datas_length script table zero i = refl
 datas_length script table (suc n) i = ap suc (datas_length script table n (suc (suc i)))
 
 -- a multi_a whose n keys have passed, the first of them at the token i
-all_passed : (script table : List ℕ) (k n i : ℕ) {r : Found} → 1 ≤ k → k ≤ 999 → allowed.all_multi_a_keys false (datas_from script table n (suc (suc i))) ≡ true → r ≡ at_left i (multi_a_row k (suc n) i) → reading_of script table r ≡ reading (asked false (makes (MultiA k (data_at script ((token_at table i).place + 1) 32) (datas_from script table n (suc (suc i)))) [])) (lexemes_left script table i)
+all_passed : (script table : List ℕ) (k n i : ℕ) {r : Result Found Refused} → 1 ≤ k → k ≤ 999 → allowed.all_multi_a_keys false (datas_from script table n (suc (suc i))) ≡ true → r ≡ multi_a_row k (suc n) i → reading_of script table r ≡ reading (asked false (makes (MultiA k (data_at script ((token_at table i).place + 1) 32) (datas_from script table n (suc (suc i)))) [])) (lexemes_left script table i)
 unfolding multi_a_row
 all_passed script table k n i l h o e =
     ap (reading_of script table) e
+    ∙ row_pick script table (leb k (suc n) && leb (suc n) 999) (row.Keys 28 k (suc n) i 2) 13 i
     ∙ ap (λ (d : Request). reading d (lexemes_left script table i))
-    (row_pick table (leb k (suc n) && leb (suc n) 999) (row.Keys 28 k (suc n) i 2) (row.Refused 13)
-    ∙ ap (λ (ps : List ℕ). pick (leb k (suc n) && leb (suc n) 999) (keys_node 28 k ps []) (refused 13)) (sym (data_offsets script table (suc n) i))
+    (ap (λ (ps : List ℕ). pick (leb k (suc n) && leb (suc n) 999) (keys_node 28 k ps []) (refused 13)) (sym (data_offsets script table (suc n) i))
     ∙ decided (leb k (suc n) && leb (suc n) 999) (multi_a_threshold k) (allowed.all_multi_a_keys false others) threshold o
     ∙ ap (λ (m : ℕ). pick (multi_a_threshold k && (allowed.all_multi_a_keys false others && (leb k (suc m) && leb (suc m) 999))) (keys_node 28 k (data_places (datas_from script table (suc n) i)) []) (refused (pick (multi_a_threshold k) (pick (allowed.all_multi_a_keys false others) 13 11) 13))) (sym (datas_length script table n (suc (suc i)))))
   where
@@ -62,68 +60,47 @@ all_passed script table k n i l h o e =
     decided t false m p q = absurd (false≢true p)
 
 -- CHECKSIG was taken, and a push of 32 bytes before it
-module _ (segwit : Bool) (script table : List ℕ) (left k n : ℕ) {t : Taken} {c v p rest : ℕ} (e : t ≡ taken_of table left) (f : t ≡ taken.Token c v p rest) (q : c ≡ BYTES32) where
-  pub first_in_segwit : segwit ≡ true → reading_of script table (at_left rest (row.Refused 11)) ≡ row_from segwit (afterCheckSig k (datas_from script table n (left + 1))) script table left
-  first_in_segwit g =
+module _ (segwit : Bool) (script table : List ℕ) (left k n : ℕ) {t : Result Taken Refused} {j : Taken} (e : t ≡ taken_of table left) (f : t ≡ Ok j) (q : j.code ≡ BYTES32) where
+  pub first_in_segwit : {r : Result Found Refused} → segwit ≡ true → r ≡ refused_at 11 j.left → reading_of script table r ≡ row_from segwit (afterCheckSig k (datas_from script table n (left + 1))) script table left
+  first_in_segwit g s =
       arm segwit (afterCheckSig k (datas_from script table n (left + 1))) script table left e f BYTES32 q
-      (ap (λ (b : Bool). led segwit (afterCheckSig k (datas_from script table n (left + 1))) script table (pick (allowed.multi_a_key b (data_at script (p + 1) 32)) (make (MultiA k (data_at script (p + 1) 32) (datas_from script table n (left + 1))) []) (refuse 11)) (push BYTES32 (data_at script (p + 1) 32)) rest) (sym g))
+      (ap (reading_of script table) s
+      ∙ ap (λ (b : Bool). led segwit (afterCheckSig k (datas_from script table n (left + 1))) script table (pick (allowed.multi_a_key b (data_at script (j.place + 1) 32)) (make (MultiA k (data_at script (j.place + 1) 32) (datas_from script table n (left + 1))) []) (refuse 11)) (push BYTES32 (data_at script (j.place + 1) 32)) j.left) (sym g))
 
-  pub first_in_tapscript : {r : Found} → segwit ≡ false → 1 ≤ k → k ≤ 999 → allowed.all_multi_a_keys segwit (datas_from script table n (left + 1)) ≡ true → r ≡ at_left rest (multi_a_row k (n + 1) rest) → reading_of script table r ≡ row_from segwit (afterCheckSig k (datas_from script table n (left + 1))) script table left
+  pub first_in_tapscript : {r : Result Found Refused} → segwit ≡ false → 1 ≤ k → k ≤ 999 → allowed.all_multi_a_keys segwit (datas_from script table n (left + 1)) ≡ true → r ≡ multi_a_row k (n + 1) j.left → reading_of script table r ≡ row_from segwit (afterCheckSig k (datas_from script table n (left + 1))) script table left
   first_in_tapscript {r} g l h o s =
       arm segwit (afterCheckSig k (datas_from script table n (left + 1))) script table left e f BYTES32 q
-      (all_passed script table k n rest l h
-      (ap (λ (j : ℕ). allowed.all_multi_a_keys false (datas_from script table n j)) two ∙ ap (λ (b : Bool). allowed.all_multi_a_keys b (datas_from script table n (left + 1))) (sym g) ∙ o)
-      (s ∙ ap (λ (j : ℕ). at_left rest (multi_a_row k j rest)) one)
-      ∙ ap (λ (j : ℕ). reading (asked false (makes (MultiA k (data_at script ((token_at table rest).place + 1) 32) (datas_from script table n j)) [])) (lexemes_left script table rest)) two
-      ∙ ap (λ (x : ℕ). reading (asked false (makes (MultiA k (data_at script (x + 1) 32) (datas_from script table n (left + 1))) [])) (lexemes_left script table rest)) place_is
-      ∙ ap (λ (b : Bool). led b (afterCheckSig k (datas_from script table n (left + 1))) script table (pick (allowed.multi_a_key b (data_at script (p + 1) 32)) (make (MultiA k (data_at script (p + 1) 32) (datas_from script table n (left + 1))) []) (refuse 11)) (push BYTES32 (data_at script (p + 1) 32)) rest) (sym g))
+      (all_passed script table k n j.left l h
+      (ap (λ (i : ℕ). allowed.all_multi_a_keys false (datas_from script table n i)) two ∙ ap (λ (b : Bool). allowed.all_multi_a_keys b (datas_from script table n (left + 1))) (sym g) ∙ o)
+      (s ∙ ap (λ (i : ℕ). multi_a_row k i j.left) one)
+      ∙ ap (λ (i : ℕ). reading (asked false (makes (MultiA k (data_at script ((token_at table j.left).place + 1) 32) (datas_from script table n i)) [])) (lexemes_left script table j.left)) two
+      ∙ ap (λ (x : ℕ). reading (asked false (makes (MultiA k (data_at script (x + 1) 32) (datas_from script table n (left + 1))) [])) (lexemes_left script table j.left)) place_is
+      ∙ ap (λ (b : Bool). led b (afterCheckSig k (datas_from script table n (left + 1))) script table (pick (allowed.multi_a_key b (data_at script (j.place + 1) 32)) (make (MultiA k (data_at script (j.place + 1) 32) (datas_from script table n (left + 1))) []) (refuse 11)) (push BYTES32 (data_at script (j.place + 1) 32)) j.left) (sym g))
     where
       one : n + 1 ≡ suc n
       one = omega arith
 
-      two : suc (suc rest) ≡ left + 1
+      two : suc (suc j.left) ≡ left + 1
       two = omega (arith, left_is table left e f)
 
-      place_in : Taken → ℕ
-      place_in taken.Nothing = 0
-      place_in (taken.Token c' v' p' rest') = p'
+      place_in : Result Taken Refused → ℕ
+      place_in (Ok i) = i.place
+      place_in (Err none) = 0
 
-      place_is : (token_at table rest).place ≡ p
+      place_is : (token_at table j.left).place ≡ j.place
       place_is = ap place_in (ap (taken_of table) (left_is table left e f) ∙ sym e ∙ f)
 
 -- the token looked at is the one that is taken
-abbrev code_ahead : Taken → Ahead
-code_ahead taken.Nothing = ahead.Nothing
-code_ahead (taken.Token c v p rest) = ahead.Code c
+abbrev code_ahead : Result Taken Refused → Option ℕ
+code_ahead (Ok j) = Some j.code
+code_ahead (Err none) = None
 
 ahead_taken : (table : List ℕ) (left : ℕ) → code_ahead (taken_of table left) ≡ ahead_of table left
 ahead_taken table zero = refl
 ahead_taken table (suc rest) = refl
 
-pub not_added : (table : List ℕ) (left : ℕ) {t : Taken} {c v p rest : ℕ} → t ≡ taken_of table left → t ≡ taken.Token c v p rest → is_check_sig_add (ahead_of table left) ≡ false → c ≡ CHECKSIGADD → ⊥
-not_added table left {t} {c} e f h = eqb-false c CHECKSIGADD (ap is_check_sig_add (sym (ap code_ahead (sym e ∙ f)) ∙ ahead_taken table left) ∙ h)
-
--- what looking ahead says
-pub nothing_ahead : {a b : Ahead} → a ≡ b → a ≡ ahead.Nothing → false ≡ is_check_sig_add b
-nothing_ahead e f = ap is_check_sig_add (sym f ∙ e)
-
-pub code_ahead_lem : {a b : Ahead} {c : ℕ} → a ≡ b → a ≡ ahead.Code c → eqb c CHECKSIGADD ≡ is_check_sig_add b
-code_ahead_lem e f = ap is_check_sig_add (sym f ∙ e)
-
--- what a key with CHECKSIGADD answers
-module _ (segwit : Bool) (table : List ℕ) (left : ℕ) {t : Taken} (e : t ≡ taken_of table left) where
-  pub none_added : t ≡ taken.Nothing → record { left = 0; refused = 9 } ≡ added_key_of segwit table left
-  none_added f = ap (added_after segwit table) (sym f ∙ e)
-
-  module _ {c v p rest : ℕ} (f : t ≡ taken.Token c v p rest) {u : Taken} (g : u ≡ taken_of table rest) where
-    on_key : added_by segwit u ≡ added_key_of segwit table left
-    on_key = ap (added_by segwit) g ∙ ap (added_after segwit table) (sym f ∙ e)
-
-    pub no_key : u ≡ taken.Nothing → record { left = 0; refused = 9 } ≡ added_key_of segwit table left
-    no_key h = ap (added_by segwit) (sym h) ∙ on_key
-
-    pub key_is : {c' v' p' rest' : ℕ} {w : ℕ} → u ≡ taken.Token c' v' p' rest' → w ≡ added_refusal segwit c' → record { left = rest'; refused = w } ≡ added_key_of segwit table left
-    key_is {c'} {v'} {p'} {rest'} h q = ap (λ (x : ℕ). record { left = rest'; refused = x }) q ∙ ap (added_by segwit) (sym h) ∙ on_key
+pub not_added : (table : List ℕ) (left : ℕ) {t : Result Taken Refused} {j : Taken} → t ≡ taken_of table left → t ≡ Ok j → is_check_sig_add (ahead_of table left) ≡ false → j.code ≡ CHECKSIGADD → ⊥
+not_added table left {j = j} e f h = eqb-false j.code CHECKSIGADD (ap is_check_sig_add (sym (ap code_ahead (sym e ∙ f)) ∙ ahead_taken table left) ∙ h)
 
 -- the loop: n keys are read, from the token `left` on
 pub record KeysAdded (segwit : Bool) (table : List ℕ) (from k left n : ℕ) : Type 0 where
@@ -132,66 +109,84 @@ pub record KeysAdded (segwit : Bool) (table : List ℕ) (from k left n : ℕ) : 
   pub passed : (script : List ℕ) → allowed.all_multi_a_keys segwit (datas_from script table n left) ≡ true
   pub same : (script : List ℕ) → row_from segwit (multiAKeys k (datas_from script table n left)) script table left ≡ row_from segwit (multiAKeys k []) script table from
 
-pub begun : (segwit : Bool) (table : List ℕ) (from k : ℕ) → InTable table from → KeysAdded segwit table from k from 0
-begun segwit table from k h = let f : from < 2147483648 = h.few in record { tokens = h; few = omega arith; passed = λ script. refl; same = λ script. refl }
+clash : {none : Refused} {rest : ℕ} → ◌≡◌ {A = Result ℕ Refused} (Err none) (Ok rest) → ⊥
+clash e = cc
+
+abbrev left_in : Result ℕ Refused → ℕ
+left_in (Ok m) = m
+left_in (Err none) = none.left
 
 -- a CHECKSIGADD is taken: what its key says
 module _ (segwit : Bool) (table : List ℕ) (k : ℕ) where
   abbrev code : ℕ → ℕ
   code i = (token_at table i).code
 
-  pub key_refused : (script : List ℕ) (left : ℕ) (ds : List Data) (r : AddedKey) → is_check_sig_add (ahead_of table left) ≡ true → r ≡ added_key_of segwit table left → (r.refused ≡ 0 → ⊥) → reading_of script table (at_left r.left (row.Refused r.refused)) ≡ row_from segwit (multiAKeys k ds) script table left
+  -- what a key says by its code
+  key_said : (m : ℕ) (b g : Bool) → eqb (code m) BYTES32 ≡ b → segwit ≡ g → added_key_of segwit table (suc (suc m)) ≡ pick b (pick g (Err (record { number = 11; left = m })) (Ok m)) (Err (record { number = 10; left = m }))
   unfolding added_refusal
-  key_refused script zero ds r a e h = absurd (false≢true a)
-  key_refused script (suc zero) ds r a e h =
-      ap (λ (x : AddedKey). reading_of script table (at_left x.left (row.Refused x.refused))) e
-      ∙ onward segwit (multiAKeys k ds) script table 1 refl refl CHECKSIGADD (afterCheckSigAdd k ds) (eqb-true (code 0) CHECKSIGADD a) refl (dry segwit (afterCheckSigAdd k ds) script table 0 refl refl)
-  key_refused script (suc (suc m)) ds r a e h =
-      ap (λ (x : AddedKey). reading_of script table (at_left x.left (row.Refused x.refused))) e
-      ∙ onward segwit (multiAKeys k ds) script table (suc (suc m)) refl refl CHECKSIGADD (afterCheckSigAdd k ds) (eqb-true (code (suc m)) CHECKSIGADD a) refl (by (eqb (code m) BYTES32) segwit refl refl)
+  key_said m b g d q = ap (λ (x : Bool). left_behind m (pick x (pick segwit (Err (record { number = 11; left = m })) (Ok tt)) (Err (record { number = 10; left = m })))) d ∙ ap (λ (x : Bool). left_behind m (pick b (pick x (Err (record { number = 11; left = m })) (Ok tt)) (Err (record { number = 10; left = m })))) q ∙ by b g
     where
-      w : ℕ
-      w = added_refusal segwit (code m)
+      by : (b g : Bool) → left_behind m (pick b (pick g (Err (record { number = 11; left = m })) (Ok tt)) (Err (record { number = 10; left = m }))) ≡ pick b (pick g (Err (record { number = 11; left = m })) (Ok m)) (Err (record { number = 10; left = m }))
+      by true true = refl
+      by true false = refl
+      by false g = refl
 
-      by : (b g : Bool) → eqb (code m) BYTES32 ≡ b → segwit ≡ g → reading_of script table (at_left m (row.Refused w)) ≡ row_from segwit (afterCheckSigAdd k ds) script table (suc m)
+  pub key_refused : (script : List ℕ) (left : ℕ) (ds : List Data) {r : Result ℕ Refused} {none : Refused} → is_check_sig_add (ahead_of table left) ≡ true → r ≡ added_key_of segwit table left → r ≡ Err none → reading_of script table (Err none) ≡ row_from segwit (multiAKeys k ds) script table left
+  key_refused script zero ds a e h = absurd (false≢true a)
+  key_refused script (suc zero) ds a e h =
+      ap refusal_in (sym h ∙ e)
+      ∙ onward segwit (multiAKeys k ds) script table 1 refl refl CHECKSIGADD (afterCheckSigAdd k ds) (eqb-true (code 0) CHECKSIGADD a) refl (dry segwit (afterCheckSigAdd k ds) script table 0 refl (Err (record { number = 9; left = 0 })) refl refl)
+    where
+      refusal_in : Result ℕ Refused → Reading
+      refusal_in (Ok i) = reading (refused 0) []
+      refusal_in (Err x) = reading_of script table (Err x)
+  key_refused script (suc (suc m)) ds {none = none} a e h =
+      onward segwit (multiAKeys k ds) script table (suc (suc m)) refl refl CHECKSIGADD (afterCheckSigAdd k ds) (eqb-true (code (suc m)) CHECKSIGADD a) refl (by (eqb (code m) BYTES32) segwit refl refl)
+    where
+      its : Result ℕ Refused
+      its = added_key_of segwit table (suc (suc m))
+
+      refusal_in : Result ℕ Refused → Reading
+      refusal_in (Ok i) = reading (refused 0) []
+      refusal_in (Err x) = reading_of script table (Err x)
+
+      by : (b g : Bool) → eqb (code m) BYTES32 ≡ b → segwit ≡ g → reading_of script table (Err none) ≡ row_from segwit (afterCheckSigAdd k ds) script table (suc m)
       by true true d g =
-          let x : w ≡ 11 = ap (λ (b : Bool). pick b (pick segwit 11 0) 10) d ∙ ap (λ (b : Bool). pick b 11 0) g in
+          let x : its ≡ Err (record { number = 11; left = m }) = key_said m true true d g in
           arm segwit (afterCheckSigAdd k ds) script table (suc m) refl refl BYTES32 (eqb-true (code m) BYTES32 d)
-          (ap (λ (i : ℕ). reading_of script table (at_left m (row.Refused i))) x
+          (ap refusal_in (sym h ∙ e ∙ x)
           ∙ ap (λ (b : Bool). led segwit (afterCheckSigAdd k ds) script table (pick (allowed.multi_a_key b (data_at script ((token_at table m).place + 1) 32)) (read_on (multiAKeys k (data_at script ((token_at table m).place + 1) 32 ∷ ds))) (refuse 11)) (push BYTES32 (data_at script ((token_at table m).place + 1) 32)) m) (sym g))
-      by true false d g =
-          let x : w ≡ 0 = ap (λ (b : Bool). pick b (pick segwit 11 0) 10) d ∙ ap (λ (b : Bool). pick b 11 0) g in
-          absurd (h (ap (λ (y : AddedKey). y.refused) e ∙ x))
+      by true false d g = let x : its ≡ Ok m = key_said m true false d g in let y : Ok m ≡ Err none = sym x ∙ sym e ∙ h in cc
       by false g d q =
-          let x : w ≡ 10 = ap (λ (b : Bool). pick b (pick segwit 11 0) 10) d in
-          ap (λ (i : ℕ). reading_of script table (at_left m (row.Refused i))) x
-          ∙ unfit segwit (afterCheckSigAdd k ds) script table (suc m) refl refl tt refl (tt, eqb-false (code m) BYTES32 d)
+          let x : its ≡ Err (record { number = 10; left = m }) = key_said m false g d q in
+          ap refusal_in (sym h ∙ e ∙ x)
+          ∙ unfit segwit (afterCheckSigAdd k ds) script table (suc m) refl refl tt refl (tt, eqb-false (code m) BYTES32 d) refl
 
-  pub again : (from left n : ℕ) (r : AddedKey) → KeysAdded segwit table from k left n → is_check_sig_add (ahead_of table left) ≡ true → r ≡ added_key_of segwit table left → r.refused ≡ 0 → KeysAdded segwit table from k r.left (n + 1)
-  unfolding added_refusal
-  again from zero n r s a e z = absurd (false≢true a)
-  again from (suc zero) n r s a e z = let x : ◌≡◌ {A = ℕ} 9 0 = sym (ap (λ (y : AddedKey). y.refused) e) ∙ z in absurd (omega arith)
-  again from (suc (suc m)) n r s a e z = by (eqb (code m) BYTES32) segwit refl refl
+  pub again : (from left n rest : ℕ) {r : Result ℕ Refused} → KeysAdded segwit table from k left n → is_check_sig_add (ahead_of table left) ≡ true → r ≡ added_key_of segwit table left → r ≡ Ok rest → KeysAdded segwit table from k rest (n + 1)
+  again from zero n rest s a e z = absurd (false≢true a)
+  again from (suc zero) n rest s a e z = absurd (clash (sym e ∙ z))
+  again from (suc (suc m)) n rest s a e z = by (eqb (code m) BYTES32) segwit refl refl
     where
-      by : (b g : Bool) → eqb (code m) BYTES32 ≡ b → segwit ≡ g → KeysAdded segwit table from k r.left (n + 1)
-      by false g d q = let x : ◌≡◌ {A = ℕ} 10 0 = sym (ap (λ (b : Bool). pick b (pick segwit 11 0) 10) d) ∙ sym (ap (λ (y : AddedKey). y.refused) e) ∙ z in absurd (omega arith)
-      by true true d q =
-          let x : ◌≡◌ {A = ℕ} 11 0 = sym (ap (λ (b : Bool). pick b (pick segwit 11 0) 10) d ∙ ap (λ (b : Bool). pick b 11 0) q) ∙ sym (ap (λ (y : AddedKey). y.refused) e) ∙ z in
-          absurd (omega arith)
+      its : Result ℕ Refused
+      its = added_key_of segwit table (suc (suc m))
+
+      by : (b g : Bool) → eqb (code m) BYTES32 ≡ b → segwit ≡ g → KeysAdded segwit table from k rest (n + 1)
+      by false g d q = absurd (clash (sym (key_said m false g d q) ∙ sym e ∙ z))
+      by true true d q = absurd (clash (sym (key_said m true true d q) ∙ sym e ∙ z))
       by true false d q =
-          let l : r.left ≡ m = ap (λ (y : AddedKey). y.left) e in
+          let l : rest ≡ m = ap left_in (sym z ∙ e ∙ key_said m true false d q) in
           let o : n + 1 ≡ suc n = omega arith in
           let i : 3 * suc (suc m) ≤ length table = s.tokens.inside in
           let f : n + suc (suc m) < 2147483648 = s.few in
           let t : suc (suc m) < 2147483648 = s.tokens.few in
-          let ds : (script : List ℕ) → datas_from script table (n + 1) r.left ≡ data_at script ((token_at table m).place + 1) 32 ∷ datas_from script table n (suc (suc m)) =
-          λ script. ap (λ (j : ℕ). datas_from script table j r.left) o ∙ ap (λ (j : ℕ). datas_from script table (suc n) j) l in
+          let ds : (script : List ℕ) → datas_from script table (n + 1) rest ≡ data_at script ((token_at table m).place + 1) 32 ∷ datas_from script table n (suc (suc m)) =
+          λ script. ap (λ (j : ℕ). datas_from script table j rest) o ∙ ap (λ (j : ℕ). datas_from script table (suc n) j) l in
           record {
             tokens = record { inside = omega arith; low = s.tokens.low; few = omega arith };
             few = omega arith;
             passed = λ script. ap (allowed.all_multi_a_keys segwit) (ds script) ∙ ap (λ (b : Bool). allowed.multi_a_key b (data_at script ((token_at table m).place + 1) 32) && allowed.all_multi_a_keys segwit (datas_from script table n (suc (suc m)))) q ∙ s.passed script;
             same = λ script.
-                ap (λ (j : ℕ). row_from segwit (multiAKeys k (datas_from script table (n + 1) r.left)) script table j) l
+                ap (λ (j : ℕ). row_from segwit (multiAKeys k (datas_from script table (n + 1) rest)) script table j) l
                 ∙ ap (λ (x : List Data). row_from segwit (multiAKeys k x) script table m) (ds script)
                 ∙ onward segwit (multiAKeys k (datas_from script table n (suc (suc m)))) script table (suc (suc m)) refl refl CHECKSIGADD (afterCheckSigAdd k (datas_from script table n (suc (suc m)))) (eqb-true (code (suc m)) CHECKSIGADD a) refl
                 (onward segwit (afterCheckSigAdd k (datas_from script table n (suc (suc m)))) script table (suc m) refl refl BYTES32 (multiAKeys k (data_at script ((token_at table m).place + 1) 32 ∷ datas_from script table n (suc (suc m)))) (eqb-true (code m) BYTES32 d)
@@ -200,21 +195,12 @@ module _ (segwit : Bool) (table : List ℕ) (k : ℕ) where
                 ∙ s.same script;
           }
 
--- fewer tokens are left behind a key
-pub lighter : (segwit : Bool) (table : List ℕ) (left : ℕ) (r : AddedKey) → is_check_sig_add (ahead_of table left) ≡ true → r ≡ added_key_of segwit table left → r.left < left
-lighter segwit table zero r a e = absurd (false≢true a)
-lighter segwit table (suc zero) r a e = let l : r.left ≡ 0 = ap (λ (y : AddedKey). y.left) e in omega arith
-lighter segwit table (suc (suc m)) r a e = let l : r.left ≡ m = ap (λ (y : AddedKey). y.left) e in omega arith
-
 -- what looking ahead has told
 pub is_added : {b looked : Bool} → b ≡ looked → not b ≡ false → looked ≡ true
 is_added {b} e h = sym e ∙ not-false b h
 
-pub is_other : {b looked : Bool} → b ≡ looked → not b ≡ true → looked ≡ false
-is_other {b} e h = sym e ∙ not-true b h
-
 -- CHECKSIG was taken: the keys behind it are those from the token behind it on
-pub behind : (segwit : Bool) (table : List ℕ) (left k n : ℕ) {t : Taken} {c v p rest : ℕ} (r : Found) → t ≡ taken_of table left → t ≡ taken.Token c v p rest → ToldMultiA afterCheckSig segwit table rest (rest + 1) k n r → ToldMultiA afterCheckSig segwit table rest left k n r
-behind segwit table left k n {t} {c} {v} {p} {rest} r e f told =
-    let q : rest + 1 ≡ left = omega (arith, left_is table left e f) in
-    subst (λ (j : ℕ). ToldMultiA afterCheckSig segwit table rest j k n r) q told
+pub behind : (segwit : Bool) (table : List ℕ) (left k n : ℕ) {t : Result Taken Refused} {j : Taken} (r : Result Found Refused) → t ≡ taken_of table left → t ≡ Ok j → ToldMultiA afterCheckSig segwit table j.left (j.left + 1) k n r → ToldMultiA afterCheckSig segwit table j.left left k n r
+behind segwit table left k n {j = j} r e f told =
+    let q : j.left + 1 ≡ left = omega (arith, left_is table left e f) in
+    subst (λ (i : ℕ). ToldMultiA afterCheckSig segwit table j.left i k n r) q told

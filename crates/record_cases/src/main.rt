@@ -10,7 +10,6 @@
 
 ghost use Rattle.std.specs.Prelude.{◌≡◌, ◌+◌, ◌-◌, ◌*◌, ◌≤◌, ◌<◌, length};
 
-use cursor::NextToken;
 use decode::Answer;
 use encode::Encoded;
 use judge::Node;
@@ -33,17 +32,10 @@ fn show_next(tokens: &[u32], left: usize) -> usize
     let back = cursor::put_back(tokens, once.left);
     let again = cursor::take(tokens, back);
     io::write_all(1, b"t");
-    match ahead {
-        NextToken::Nothing => {}
-        NextToken::Token {
-            code,
-            number,
-            place,
-        } => {
-            cell(code);
-            cell(number);
-            cell(place);
-        }
+    if let Some(token) = ahead {
+        cell(token.code);
+        cell(token.number);
+        cell(token.place);
     }
     space();
     io::print_hex(1, long(again.left), 1);

@@ -1,5 +1,5 @@
 -- Worked examples, computed on the definitions: what the rows of some short scripts ask for (document 01, "Tokens to tree" and "When the desk says no", 9 to 13). The last token stands first.
-use Rattle.std.specs.Prelude.{◌≡◌, refl, true, false, List, [], ◌∷◌, ℕ, replicate}
+use Rattle.std.specs.Prelude.{◌≡◌, refl, true, false, List, [], ◌∷◌, ℕ, replicate, Ok}
 use Rattle.lex.specs.Token.{Data, Lexeme, op, num, push, EQUAL, NUMEQUAL, CHECKSIG, CHECKMULTISIG, CHECKSEQUENCEVERIFY, DUP, SIZE, SWAP, VERIFY, HASH160, NUM, HASH20, BYTES32, BYTES33}
 use Rattle.standard.specs.Rows.{NonTerm, Expression, MaybeAndV, AndV, Verify, ThreshE, row_of}
 use Rattle.row.specs.declared.Row.TheVariants as row
@@ -73,5 +73,5 @@ before_a_number = refl
 abbrev two_keys : List ℕ
 two_keys = NUM ∷ 1 ∷ 0 ∷ BYTES33 ∷ 0 ∷ 1 ∷ BYTES33 ∷ 0 ∷ 35 ∷ NUM ∷ 2 ∷ 69 ∷ 8 ∷ 0 ∷ 70 ∷ []
 
-pub keys_of_two : reading_of [] two_keys (record { left = 0; row = row.Keys 27 1 2 1 1 }) ≡ reading (keys_node 27 1 (2 ∷ 36 ∷ []) []) []
+pub keys_of_two : reading_of [] two_keys (Ok (record { left = 0; row = row.Keys 27 1 2 1 1 })) ≡ reading (keys_node 27 1 (2 ∷ 36 ∷ []) []) []
 keys_of_two = refl

@@ -1,5 +1,5 @@
 -- For the proof: what a row asks for, on numbers. One request is read off `standard`'s answer (Asks) and off the code's (Row), and the rows' contracts say that the two are the same.
-use Rattle.std.specs.Prelude.{Bool, List, [], ◌∷◌, ℕ, zero, suc, ◌+◌, ◌*◌, get_or}
+use Rattle.std.specs.Prelude.{Bool, List, [], ◌∷◌, ℕ, zero, suc, ◌+◌, ◌*◌, get_or, Result, Ok, Err}
 use Rattle.lex.specs.Token.{Lexeme}
 use Rattle.tables.specs.Choose.{pick}
 use Rattle.standard.specs.Tree as tree
@@ -14,6 +14,7 @@ use Rattle.row.specs.declared.NonTerm.TheVariants as non-term
 use Rattle.row.specs.declared.Row.{Row}
 use Rattle.row.specs.declared.Row.TheVariants as row
 use Rattle.row.specs.declared.Found.{Found}
+use Rattle.row.specs.declared.Refused.{Refused}
 use Rattle.row.specs.declared.Hash.{Hash}
 use Rattle.row.specs.declared.Hash.TheVariants as hash
 
@@ -120,7 +121,6 @@ offsets_from table (suc n) first stride = (get_or table (3 * first + 2) 0 + 1) �
 
 -- entries are pushed in turn, so the last one is on top
 abbrev pub request_of : List ℕ → Row → Request
-request_of table (row.Refused n) = refused n
 request_of table row.Enter0 = entries []
 request_of table (row.Enter1 a) = entries (entry_of a ∷ [])
 request_of table (row.Enter2 a b) = entries (entry_of b ∷ entry_of a ∷ [])
@@ -132,5 +132,13 @@ request_of table (row.Reduce2 kind) = twoChildren kind
 request_of table row.Tern = three_children
 request_of table (row.Thresh k n) = many_children k n
 
-abbrev pub reading_of : List ℕ → List ℕ → Found → Reading
-reading_of script table f = reading (request_of table f.row) (lexemes_left script table f.left)
+-- a row's answer and its refusal, with so many tokens left
+abbrev pub asked_at : Row → ℕ → Result Found Refused
+asked_at asks left = Ok (record { left = left; row = asks })
+
+abbrev pub refused_at : ℕ → ℕ → Result Found Refused
+refused_at number left = Err (record { number = number; left = left })
+
+abbrev pub reading_of : List ℕ → List ℕ → Result Found Refused → Reading
+reading_of script table (Ok f) = reading (request_of table f.row) (lexemes_left script table f.left)
+reading_of script table (Err e) = reading (refused e.number) (lexemes_left script table e.left)

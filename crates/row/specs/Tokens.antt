@@ -1,11 +1,9 @@
 -- For the proof: the tokens that are left, read off the token table, which has three numbers for each (document 01, "A token holds code, number and place of its instruction"). "The last token is taken first", so the next one stands first.
-use Rattle.std.specs.Prelude.{List, ℕ, zero, suc, ◌+◌, ◌*◌, ◌≤◌, ◌<◌, length, get_or}
+use Rattle.std.specs.Prelude.{List, ℕ, zero, suc, ◌+◌, ◌*◌, ◌≤◌, ◌<◌, length, get_or, Option, None, Some, Result, Ok, Err}
 use Rattle.tables.specs.Tables.{newest}
 use Rattle.lex.specs.Token.{Token, token, Lexeme, lexeme}
 use Rattle.row.specs.declared.Taken.{Taken}
-use Rattle.row.specs.declared.Taken.TheVariants as taken
-use Rattle.row.specs.declared.Ahead.{Ahead}
-use Rattle.row.specs.declared.Ahead.TheVariants as ahead
+use Rattle.row.specs.declared.Refused.{Refused}
 
 -- token i of the table
 abbrev pub token_at : List ℕ → ℕ → Token
@@ -15,15 +13,15 @@ token_at table i = token (get_or table (3 * i) 0) (get_or table (3 * i + 1) 0) (
 abbrev pub lexemes_left : List ℕ → List ℕ → ℕ → List Lexeme
 lexemes_left script table left = newest (λ (i : ℕ). lexeme script (token_at table i)) left
 
--- the next token, and how many are left after it
-abbrev pub taken_of : List ℕ → ℕ → Taken
-taken_of table zero = taken.Nothing
-taken_of table (suc rest) = taken.Token (get_or table (3 * rest) 0) (get_or table (3 * rest + 1) 0) (get_or table (3 * rest + 2) 0) rest
+-- the next token, and how many are left after it; 9 if there is none
+abbrev pub taken_of : List ℕ → ℕ → Result Taken Refused
+taken_of table zero = Err (record { number = 9; left = 0 })
+taken_of table (suc rest) = Ok (record { code = get_or table (3 * rest) 0; number = get_or table (3 * rest + 1) 0; place = get_or table (3 * rest + 2) 0; left = rest })
 
 -- the code of the next token
-abbrev pub ahead_of : List ℕ → ℕ → Ahead
-ahead_of table zero = ahead.Nothing
-ahead_of table (suc rest) = ahead.Code (get_or table (3 * rest) 0)
+abbrev pub ahead_of : List ℕ → ℕ → Option ℕ
+ahead_of table zero = None
+ahead_of table (suc rest) = Some (get_or table (3 * rest) 0)
 
 -- what the decoder knows of a token table that the lexer has filled: the tokens left lie in it, and every number in it, and how many are left, is below 2^31
 pub record InTable (table : List ℕ) (left : ℕ) : Type 0 where

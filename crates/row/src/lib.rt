@@ -4,8 +4,7 @@
 
 ghost use Rattle.std.specs.Prelude.{◌≡◌, ◌+◌, ◌*◌, ◌≤◌, length};
 ghost use Rattle.row.specs.Tokens.{taken_of, ahead_of};
-
-use cursor::NextToken;
+ghost use Rattle.row.specs.Request.{asked_at, refused_at};
 
 pub mod kind;
 
@@ -53,8 +52,6 @@ pub enum Hash {
 // What a row asks for.
 #[derive(Clone, Copy)]
 pub enum Row {
-    // Document 01's number.
-    Refused(u32),
     // Entries, in the order in which decode.rs pushes them: the last one on top.
     Enter0,
     Enter1(NonTerm),
@@ -92,61 +89,58 @@ pub struct Found {
     pub row: Row,
 }
 
-// The next token, and how many are left once it is taken; or none is left.
-#[derive(Clone, Copy)]
-pub enum Taken {
-    Nothing,
-    Token {
-        code: u32,
-        number: u32,
-        place: u32,
-        left: usize,
-    },
+// A row that is refused: document 01's number, and how many tokens are left.
+#[derive(Clone, Copy, Debug, PartialEq, Eq)]
+pub struct Refused {
+    pub number: u32,
+    pub left: usize,
 }
 
-// The code of the token that would be taken next.
+// The next token, and how many are left once it is taken.
 #[derive(Clone, Copy)]
-pub enum Ahead {
-    Nothing,
-    Code(u32),
+pub struct Taken {
+    pub code: u32,
+    pub number: u32,
+    pub place: u32,
+    pub left: usize,
 }
 
-// Takes a token. The last one of the script is taken first. The cursor that is lent for it is crate `cursor`'s.
-pub fn next(tokens: &[u32], left: usize) -> Taken
+// A row's answer, with so many tokens left.
+pub fn ask(row: Row, left: usize) -> Result<Found, Refused>
+    ensures { result ≡ asked_at row left }
+{
+    Ok(Found { left, row })
+}
+
+// A row's refusal, with so many tokens left.
+pub fn refuse(number: u32, left: usize) -> Result<Found, Refused>
+    ensures { result ≡ refused_at number left }
+{
+    Err(Refused { number, left })
+}
+
+// Takes a token: 9 where none is left. The last one of the script is taken first. The cursor that is lent for it is crate
+// `cursor`'s.
+pub fn next(tokens: &[u32], left: usize) -> Result<Taken, Refused>
     requires { 3 * left ≤ length tokens.now }
     ensures { result ≡ taken_of tokens.now left }
 {
     let took = cursor::take(tokens, left);
-    let token = took.token;
-    match token {
-        NextToken::Nothing => Taken::Nothing,
-        NextToken::Token {
-            code,
-            number,
-            place,
-        } => Taken::Token {
-            code,
-            number,
-            place,
-            left: took.left,
-        },
-    }
+    let token = took.token.ok_or(Refused { number: 9, left: 0 })?;
+    Ok(Taken {
+        code: token.code,
+        number: token.number,
+        place: token.place,
+        left: took.left,
+    })
 }
 
-// Looks at the next token without taking it.
-pub fn peek(tokens: &[u32], left: usize) -> Ahead
+// The code of the token that would be taken next.
+pub fn peek(tokens: &[u32], left: usize) -> Option<u32>
     requires { 3 * left ≤ length tokens.now }
     ensures { result ≡ ahead_of tokens.now left }
 {
-    let token = cursor::look(tokens, left);
-    match token {
-        NextToken::Nothing => Ahead::Nothing,
-        NextToken::Token {
-            code,
-            number: _,
-            place: _,
-        } => Ahead::Code(code),
-    }
+    cursor::look(tokens, left).map(|token| token.code)
 }
 
 // Puts the token back that was taken last.

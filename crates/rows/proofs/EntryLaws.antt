@@ -1,12 +1,10 @@
 -- The row of an entry: from a point on, or without a token; thresh's k and n; and thresh's children. Assumes nothing.
 use mathlib.Core.Path.{◌≡◌, refl, sym, ap, subst, ◌∙◌}
-use mathlib.Core.Bool.{Bool, ◌&&◌}
+use mathlib.Core.Bool.{Bool}
 use mathlib.Core.List.{List, [], ◌∷◌}
-use Prim.Native.Nat.{ℕ, suc, ◌+◌, ◌≤◌, ◌<◌}
+use Prim.Native.Nat.{ℕ, suc, ◌+◌, ◌<◌}
 use native.Mathlib.Omega.{arith}
-use lib.Dec.{leb}
-use borrow.Author.Tests.{le-leb, lt-leb}
-use Rattle.tables.specs.Choose.{pick}
+use Rattle.std.specs.Prelude.{Result, Ok, Err, IsErrAnd}
 use Rattle.lex.specs.Token.{Lexeme, ADD}
 use Rattle.standard.specs.Allowed.{within}
 use Rattle.standard.specs.Rows.{Point, in_thresh_w, opcode, enter, WExpression, Expression, ThreshW, ThreshE, read_from, row_of}
@@ -15,13 +13,13 @@ use Rattle.row.specs.declared.NonTerm.TheVariants as non-term
 use Rattle.row.specs.declared.Row.{Row}
 use Rattle.row.specs.declared.Row.TheVariants as row
 use Rattle.row.specs.declared.Found.{Found}
+use Rattle.row.specs.declared.Refused.{Refused}
 use Rattle.row.specs.declared.Taken.{Taken}
-use Rattle.row.specs.declared.Taken.TheVariants as taken
 use Rattle.row.specs.Tokens.{lexemes_left, taken_of}
-use Rattle.row.specs.Request.{Request, entries, Reading, reading, reading_asked, entry_of, counted, reading_of}
+use Rattle.row.specs.Request.{entries, Reading, reading, reading_asked, entry_of, counted, asked_at, reading_of}
 use Rattle.row.specs.Told.{row_from, entry_row}
 use Rattle.row.proofs.LookLaws.{Rest}
-use Rattle.row.proofs.TakenLaws.{at_left, row_pick, dry, arm, put_back_lem}
+use Rattle.row.proofs.TakenLaws.{row_pick, dry, arm, put_back_lem}
 use Rattle.rows.specs.Thresh.{thresh_row}
 
 -- the contract of `row_of`, for an entry that is known
@@ -36,7 +34,7 @@ module _ (segwit : Bool) (script table : List ℕ) (left : ℕ) where
     by_point known point q f h = h ∙ ap (reading_asked segwit) (f (lexemes_left script table left)) ∙ ap asks (sym q)
 
     -- its row takes no token
-    pub by_row : (known : NonTerm) (asked : Row) {r : Found} → entry ≡ known → r ≡ at_left left asked → reading_of script table (at_left left asked) ≡ asks known → reading_of script table r ≡ asks entry
+    pub by_row : (known : NonTerm) (asked : Row) {r : Result Found Refused} → entry ≡ known → r ≡ asked_at asked left → reading_of script table (asked_at asked left) ≡ asks known → reading_of script table r ≡ asks entry
     by_row known asked q h f = ap (reading_of script table) h ∙ f ∙ ap asks (sym q)
 
     -- its row is told as an entry's
@@ -45,37 +43,19 @@ module _ (segwit : Bool) (script table : List ℕ) (left : ℕ) where
     by_entry known q h = h ∙ ap asks (sym q)
 
     -- ThreshE
-    pub by_thresh : (k n : ℕ) {r : Found} → entry ≡ non-term.ThreshE k n → r ≡ at_left left (thresh_row k n) → reading_of script table r ≡ asks entry
+    pub by_thresh : (k n : ℕ) {r : Result Found Refused} → entry ≡ non-term.ThreshE k n → r ≡ thresh_row k n left → reading_of script table r ≡ asks entry
     unfolding thresh_row
     by_thresh k n q h =
         ap (reading_of script table) h
-        ∙ ap (λ (d : Request). reading d (lexemes_left script table left)) (row_pick table (within 1 k n) (row.Thresh k n) (row.Refused 13))
+        ∙ row_pick script table (within 1 k n) (row.Thresh k n) 13 left
         ∙ ap asks (sym q)
 
 -- an entry that counts children
 pub counts : (entry : NonTerm) (k n : ℕ) → entry ≡ non-term.ThreshW k n → counted entry < 2147483648 → n < 2147483648
 counts entry k n q h = subst (λ (x : NonTerm). counted x < 2147483648) q h
 
--- thresh's k and n
-module _ (k n left : ℕ) where
-  pub thresh_low : k < 1 → at_left left (row.Refused 13) ≡ at_left left (thresh_row k n)
-  unfolding thresh_row
-  thresh_low h = ap (λ (b : Bool). at_left left (pick (b && leb k n) (row.Thresh k n) (row.Refused 13))) (sym (lt-leb 1 k h))
-
-  pub thresh_high : 1 ≤ k → n < k → at_left left (row.Refused 13) ≡ at_left left (thresh_row k n)
-  unfolding thresh_row
-  thresh_high l h =
-      ap (λ (b : Bool). at_left left (pick b (row.Thresh k n) (row.Refused 13))) (sym (lt-leb k n h))
-      ∙ ap (λ (b : Bool). at_left left (pick (b && leb k n) (row.Thresh k n) (row.Refused 13))) (sym (le-leb 1 k l))
-
-  pub thresh_fits : 1 ≤ k → k ≤ n → at_left left (row.Thresh k n) ≡ at_left left (thresh_row k n)
-  unfolding thresh_row
-  thresh_fits l h =
-      ap (λ (b : Bool). at_left left (pick b (row.Thresh k n) (row.Refused 13))) (sym (le-leb k n h))
-      ∙ ap (λ (b : Bool). at_left left (pick (b && leb k n) (row.Thresh k n) (row.Refused 13))) (sym (le-leb 1 k l))
-
 -- thresh's children
-module _ (segwit : Bool) (script table : List ℕ) (left k n : ℕ) {t : Taken} (e : t ≡ taken_of table left) where
+module _ (segwit : Bool) (script table : List ℕ) (left k n : ℕ) {t : Result Taken Refused} (e : t ≡ taken_of table left) where
   at_entry : {x : Reading} → x ≡ row_from segwit (in_thresh_w k n) script table left → x ≡ entry_row segwit (non-term.ThreshW k n) script table left
   unfolding row_from entry_row
   at_entry h = h
@@ -83,14 +63,14 @@ module _ (segwit : Bool) (script table : List ℕ) (left k n : ℕ) {t : Taken} 
   one_more : n + 1 ≡ suc n
   one_more = omega arith
 
-  pub no_child : t ≡ taken.Nothing → reading_of script table (at_left 0 (row.Refused 9)) ≡ entry_row segwit (non-term.ThreshW k n) script table left
-  no_child f = at_entry (dry segwit (in_thresh_w k n) script table left e f)
+  pub no_child : {none : Refused} (r : Result Found Refused) → t ≡ Err none → IsErrAnd r (λ x. x ≡ none) → reading_of script table r ≡ entry_row segwit (non-term.ThreshW k n) script table left
+  no_child r f g = at_entry (dry segwit (in_thresh_w k n) script table left e r f g)
 
-  module _ {c v p rest : ℕ} (f : t ≡ taken.Token c v p rest) where
-    pub child_more : c ≡ ADD → reading_of script table (at_left rest (row.Enter2 (non-term.ThreshW k (n + 1)) non-term.WExpression)) ≡ entry_row segwit (non-term.ThreshW k n) script table left
-    child_more q = at_entry (arm segwit (in_thresh_w k n) script table left e f ADD q (ap (λ (j : ℕ). reading (entries (WExpression ∷ ThreshW k j ∷ [])) (lexemes_left script table rest)) one_more))
+  module _ {j : Taken} (f : t ≡ Ok j) where
+    pub child_more : {r : Result Found Refused} → j.code ≡ ADD → r ≡ asked_at (row.Enter2 (non-term.ThreshW k (n + 1)) non-term.WExpression) j.left → reading_of script table r ≡ entry_row segwit (non-term.ThreshW k n) script table left
+    child_more q s = at_entry (arm segwit (in_thresh_w k n) script table left e f ADD q (ap (reading_of script table) s ∙ ap (λ (i : ℕ). reading (entries (WExpression ∷ ThreshW k i ∷ [])) (lexemes_left script table j.left)) one_more))
 
-    pub first_child : Rest c (Unit {0}) (3 ∷ []) → {back : ℕ} → back ≡ rest + 1 → reading_of script table (at_left back (row.Enter2 (non-term.ThreshE k (n + 1)) non-term.Expression)) ≡ entry_row segwit (non-term.ThreshW k n) script table left
-    first_child x b =
+    pub first_child : Rest j.code (Unit {0}) (3 ∷ []) → {back : ℕ} → back ≡ j.left + 1 → {r : Result Found Refused} → r ≡ asked_at (row.Enter2 (non-term.ThreshE k (n + 1)) non-term.Expression) back → reading_of script table r ≡ entry_row segwit (non-term.ThreshW k n) script table left
+    first_child x b s =
         at_entry
-        (put_back_lem segwit (in_thresh_w k n) script table left e f (opcode ADD (enter (WExpression ∷ ThreshW k (suc n) ∷ [])) ∷ []) (ThreshE k (suc n) ∷ []) (row.Enter2 (non-term.ThreshE k (n + 1)) non-term.Expression) tt refl x (ap (λ (j : ℕ). entries (Expression ∷ ThreshE k j ∷ [])) one_more) b)
+        (put_back_lem segwit (in_thresh_w k n) script table left e f (opcode ADD (enter (WExpression ∷ ThreshW k (suc n) ∷ [])) ∷ []) (ThreshE k (suc n) ∷ []) (row.Enter2 (non-term.ThreshE k (n + 1)) non-term.Expression) tt refl x (ap (λ (i : ℕ). entries (Expression ∷ ThreshE k i ∷ [])) one_more) b s)

@@ -13,93 +13,37 @@ ghost use Rattle.rows.specs.Thresh.{thresh_row};
 use branches::{end_if, end_if_else, end_if_not_if};
 use expressions::expression;
 use row::token::{ADD, ELSE, FROM_ALT_STACK, IF, NOT_IF, SWAP, TO_ALT_STACK};
-use row::{Ahead, Found, NonTerm, Row, Taken, kind, next, peek, un_next};
+use row::{Found, NonTerm, Refused, Row, ask, kind, next, peek, refuse, un_next};
 
 // A W expression is either from SWAP or from FROMALTSTACK.
-fn w_expression(tokens: &[u32], left: usize) -> Found
+fn w_expression(tokens: &[u32], left: usize) -> Result<Found, Refused>
     requires { InTable tokens.now left }
     ensures { Told point.inWExpression tokens.now left result }
 {
-    let taken = next(tokens, left);
-    let Taken::Token {
-        code,
-        left: rest,
-        ..
-    } = taken
-    else {
-        return Found {
-            left: 0,
-            row: Row::Refused(9),
-        };
-    };
-    match code {
-        FROM_ALT_STACK => Found {
-            left: rest,
-            row: Row::Enter3(NonTerm::Alt, NonTerm::MaybeAndV, NonTerm::Expression),
-        },
-        _ => Found {
-            left: un_next(tokens, rest),
-            row: Row::Enter3(NonTerm::Swap, NonTerm::MaybeAndV, NonTerm::Expression),
-        },
+    let token = next(tokens, left)?;
+    match token.code {
+        FROM_ALT_STACK => ask(
+            Row::Enter3(NonTerm::Alt, NonTerm::MaybeAndV, NonTerm::Expression),
+            token.left,
+        ),
+        _ => ask(
+            Row::Enter3(NonTerm::Swap, NonTerm::MaybeAndV, NonTerm::Expression),
+            un_next(tokens, token.left),
+        ),
     }
 }
 
-// SWAP, and then s: is made.
-fn swap_prefix(tokens: &[u32], left: usize) -> Found
+// The token of a prefix, and then its wrapper is made: SWAP and s:, or TOALTSTACK and a:.
+fn prefix(tokens: &[u32], left: usize, code: u32, kind: u32) -> Result<Found, Refused>
     requires { InTable tokens.now left }
-    ensures { Told point.inSwap tokens.now left result }
+    ensures swap { code ≡ 22 → kind ≡ 13 → Told point.inSwap tokens.now left result }
+    ensures alt { code ≡ 12 → kind ≡ 12 → Told point.inAlt tokens.now left result }
 {
-    let taken = next(tokens, left);
-    let Taken::Token {
-        code,
-        left: rest,
-        ..
-    } = taken
-    else {
-        return Found {
-            left: 0,
-            row: Row::Refused(9),
-        };
-    };
-    match code {
-        SWAP => Found {
-            left: rest,
-            row: Row::Reduce1(kind::SWAP),
-        },
-        _ => Found {
-            left: rest,
-            row: Row::Refused(10),
-        },
+    let token = next(tokens, left)?;
+    if token.code != code {
+        return refuse(10, token.left);
     }
-}
-
-// TOALTSTACK, and then a: is made.
-fn alt_prefix(tokens: &[u32], left: usize) -> Found
-    requires { InTable tokens.now left }
-    ensures { Told point.inAlt tokens.now left result }
-{
-    let taken = next(tokens, left);
-    let Taken::Token {
-        code,
-        left: rest,
-        ..
-    } = taken
-    else {
-        return Found {
-            left: 0,
-            row: Row::Refused(9),
-        };
-    };
-    match code {
-        TO_ALT_STACK => Found {
-            left: rest,
-            row: Row::Reduce1(kind::ALT),
-        },
-        _ => Found {
-            left: rest,
-            row: Row::Refused(10),
-        },
-    }
+    ask(Row::Reduce1(kind), token.left)
 }
 
 // Whether an and_v goes on: no at the script's start and before If, NotIf, Else, ToAltStack, Swap, else yes.
@@ -107,8 +51,7 @@ pub fn is_and_v(tokens: &[u32], left: usize) -> bool
     requires { InTable tokens.now left }
     ensures { ToldAndV tokens.now left result }
 {
-    let ahead = peek(tokens, left);
-    let Ahead::Code(code) = ahead else {
+    let Some(code) = peek(tokens, left) else {
         return false;
     };
     match code {
@@ -121,98 +64,63 @@ pub fn is_and_v(tokens: &[u32], left: usize) -> bool
     }
 }
 
-fn maybe_and_v(tokens: &[u32], left: usize) -> Found
+fn maybe_and_v(tokens: &[u32], left: usize) -> Result<Found, Refused>
     requires { InTable tokens.now left }
     ensures { ToldEntry NonTerm.MaybeAndV tokens.now left result }
 {
     if is_and_v(tokens, left) {
-        return Found {
-            left,
-            row: Row::Enter2(NonTerm::AndV, NonTerm::Expression),
-        };
+        return ask(Row::Enter2(NonTerm::AndV, NonTerm::Expression), left);
     }
-    Found {
-        left,
-        row: Row::Enter0,
-    }
+    ask(Row::Enter0, left)
 }
 
-fn and_v(tokens: &[u32], left: usize) -> Found
+fn and_v(tokens: &[u32], left: usize) -> Result<Found, Refused>
     requires { InTable tokens.now left }
     ensures { ToldEntry NonTerm.AndV tokens.now left result }
 {
     if is_and_v(tokens, left) {
-        return Found {
-            left,
-            row: Row::Enter2(NonTerm::AndV, NonTerm::MaybeAndV),
-        };
+        return ask(Row::Enter2(NonTerm::AndV, NonTerm::MaybeAndV), left);
     }
-    Found {
-        left,
-        row: Row::Reduce2(kind::AND_V),
-    }
+    ask(Row::Reduce2(kind::AND_V), left)
 }
 
 // ADD, and one more child; or the first child.
-fn thresh_w(tokens: &[u32], left: usize, k: u32, n: u32) -> Found
+fn thresh_w(tokens: &[u32], left: usize, k: u32, n: u32) -> Result<Found, Refused>
     requires in_table { InTable tokens.now left }
     requires n_bound { n < 2147483648 }
     ensures { ToldEntry (NonTerm.ThreshW k n) tokens.now left result }
 {
-    let taken = next(tokens, left);
-    let Taken::Token {
-        code,
-        left: rest,
-        ..
-    } = taken
-    else {
-        return Found {
-            left: 0,
-            row: Row::Refused(9),
-        };
-    };
-    match code {
-        ADD => Found {
-            left: rest,
-            row: Row::Enter2(NonTerm::ThreshW { k, n: n + 1 }, NonTerm::WExpression),
-        },
-        _ => Found {
-            left: un_next(tokens, rest),
-            row: Row::Enter2(NonTerm::ThreshE { k, n: n + 1 }, NonTerm::Expression),
-        },
+    let token = next(tokens, left)?;
+    match token.code {
+        ADD => ask(
+            Row::Enter2(NonTerm::ThreshW { k, n: n + 1 }, NonTerm::WExpression),
+            token.left,
+        ),
+        _ => ask(
+            Row::Enter2(NonTerm::ThreshE { k, n: n + 1 }, NonTerm::Expression),
+            un_next(tokens, token.left),
+        ),
     }
 }
 
-fn thresh_e(left: usize, k: u32, n: u32) -> Found
-    ensures { result ≡ record { left = left; row = thresh_row k n } }
+#[tactic(auto, unfolding(crate::specs::Thresh::thresh_row))]
+fn thresh_e(left: usize, k: u32, n: u32) -> Result<Found, Refused>
+    ensures { result ≡ thresh_row k n left }
 {
-    if k < 1 {
-        return Found {
-            left,
-            row: Row::Refused(13),
-        };
+    if k < 1 || n < k {
+        return refuse(13, left);
     }
-    if n < k {
-        return Found {
-            left,
-            row: Row::Refused(13),
-        };
-    }
-    Found {
-        left,
-        row: Row::Thresh { k, n },
-    }
-}
-
-// An entry whose row takes no token.
-fn reduced(left: usize, row: Row) -> Found
-    ensures { result ≡ record { left = left; row = row } }
-{
-    Found { left, row }
+    ask(Row::Thresh { k, n }, left)
 }
 
 // The row of an entry.
-pub fn row_of(segwit: bool, script: &[u8], tokens: &[u32], left: usize, entry: NonTerm) -> Found
+pub fn row_of(
+    segwit: bool,
+    script: &[u8],
+    tokens: &[u32],
+    left: usize,
+    entry: NonTerm,
+) -> Result<Found, Refused>
     requires in_table { InTable tokens.now left }
     requires bound { counted entry < 2147483648 }
     ensures { reading_of script.now tokens.now result ≡ reading_asked segwit (row_of segwit (entry_of entry) (lexemes_left script.now tokens.now left)) }
@@ -220,20 +128,20 @@ pub fn row_of(segwit: bool, script: &[u8], tokens: &[u32], left: usize, entry: N
     match entry {
         NonTerm::Expression => expression(segwit, script, tokens, left),
         NonTerm::WExpression => w_expression(tokens, left),
-        NonTerm::Swap => swap_prefix(tokens, left),
+        NonTerm::Swap => prefix(tokens, left, SWAP, kind::SWAP),
         NonTerm::MaybeAndV => maybe_and_v(tokens, left),
-        NonTerm::Alt => alt_prefix(tokens, left),
-        NonTerm::Check => reduced(left, Row::Reduce1(kind::CHECK)),
-        NonTerm::DupIf => reduced(left, Row::Reduce1(kind::DUP_IF)),
-        NonTerm::Verify => reduced(left, Row::Reduce1(kind::VERIFY)),
-        NonTerm::NonZero => reduced(left, Row::Reduce1(kind::NON_ZERO)),
-        NonTerm::ZeroNotEqual => reduced(left, Row::Reduce1(kind::ZERO_NOT_EQUAL)),
+        NonTerm::Alt => prefix(tokens, left, TO_ALT_STACK, kind::ALT),
+        NonTerm::Check => ask(Row::Reduce1(kind::CHECK), left),
+        NonTerm::DupIf => ask(Row::Reduce1(kind::DUP_IF), left),
+        NonTerm::Verify => ask(Row::Reduce1(kind::VERIFY), left),
+        NonTerm::NonZero => ask(Row::Reduce1(kind::NON_ZERO), left),
+        NonTerm::ZeroNotEqual => ask(Row::Reduce1(kind::ZERO_NOT_EQUAL), left),
         NonTerm::AndV => and_v(tokens, left),
-        NonTerm::AndB => reduced(left, Row::Reduce2(kind::AND_B)),
-        NonTerm::Tern => reduced(left, Row::Tern),
-        NonTerm::OrB => reduced(left, Row::Reduce2(kind::OR_B)),
-        NonTerm::OrD => reduced(left, Row::Reduce2(kind::OR_D)),
-        NonTerm::OrC => reduced(left, Row::Reduce2(kind::OR_C)),
+        NonTerm::AndB => ask(Row::Reduce2(kind::AND_B), left),
+        NonTerm::Tern => ask(Row::Tern, left),
+        NonTerm::OrB => ask(Row::Reduce2(kind::OR_B), left),
+        NonTerm::OrD => ask(Row::Reduce2(kind::OR_D), left),
+        NonTerm::OrC => ask(Row::Reduce2(kind::OR_C), left),
         NonTerm::ThreshW { k, n } => thresh_w(tokens, left, k, n),
         NonTerm::ThreshE { k, n } => thresh_e(left, k, n),
         NonTerm::EndIf => end_if(tokens, left),

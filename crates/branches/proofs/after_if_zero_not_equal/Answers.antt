@@ -2,12 +2,14 @@
 use Rattle.branches.proofs.after_if_zero_not_equal.Goals as goal
 use Rattle.row.proofs.TakenLaws.{dry, arm, unfit}
 use mathlib.Core.Path.{refl}
+use mathlib.Core.Path.{ap}
+use Rattle.row.specs.Request.{reading_of}
 
-pub returns-in_default : goal.returns-in_default
-returns-in_default c = λ segwit script. dry segwit _ script c.args.tokens.now c.args.left c.next-taken.ensures c.in_default.is
+pub returns-in_err-token : goal.returns-in_err-token
+returns-in_err-token c = λ segwit script. dry segwit _ script c.args.tokens.now c.args.left c.next.ensures c.from_residual.result c.in_err-token.was c.from_residual.ensures.1
 
 pub returns-in-21 : goal.returns-in-21
-returns-in-21 c = λ segwit script. arm segwit _ script c.args.tokens.now c.args.left c.next-taken.ensures c.in-Token.is 21 c.in-21.is refl
+returns-in-21 c = λ segwit script. arm segwit _ script c.args.tokens.now c.args.left c.next.ensures c.in_ok-token.was 21 c.in-21.is (ap (reading_of script c.args.tokens.now) c.ask.ensures)
 
-pub returns-in_default-code : goal.returns-in_default-code
-returns-in_default-code c = λ segwit script. unfit segwit _ script c.args.tokens.now c.args.left c.next-taken.ensures c.in-Token.is tt refl c.in_default-code.in_default-code-own.rest
+pub returns-in_default : goal.returns-in_default
+returns-in_default c = λ segwit script. unfit segwit _ script c.args.tokens.now c.args.left c.next.ensures c.in_ok-token.was tt refl c.in_default.in_default-own.rest c.refuse.ensures

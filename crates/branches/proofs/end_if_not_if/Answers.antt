@@ -6,12 +6,14 @@ use Rattle.row.specs.declared.Row.TheVariants as row
 use Rattle.standard.specs.Rows as point
 use mathlib.Core.List.{[], ◌∷◌}
 use mathlib.Core.Path.{refl}
+use mathlib.Core.Path.{ap}
+use Rattle.row.specs.Request.{reading_of}
 
-pub returns-in_default : goal.returns-in_default
-returns-in_default c = λ segwit script. dry segwit _ script c.args.tokens.now c.args.left c.next-taken.ensures c.in_default.is
+pub returns-in_err-token : goal.returns-in_err-token
+returns-in_err-token c = λ segwit script. dry segwit _ script c.args.tokens.now c.args.left c.next.ensures c.from_residual.result c.in_err-token.was c.from_residual.ensures.1
 
 pub returns-in-16 : goal.returns-in-16
-returns-in-16 c = λ segwit script. arm segwit _ script c.args.tokens.now c.args.left c.next-taken.ensures c.in-Token.is 16 c.in-16.is refl
+returns-in-16 c = λ segwit script. arm segwit _ script c.args.tokens.now c.args.left c.next.ensures c.in_ok-token.was 16 c.in-16.is (ap (reading_of script c.args.tokens.now) c.ask.ensures)
 
-pub returns-in_default-code : goal.returns-in_default-code
-returns-in_default-code c = λ segwit script. put_back_lem segwit _ script c.args.tokens.now c.args.left c.next-taken.ensures c.in-Token.is (point.opcode 16 (point.enter (point.Expression ∷ point.OrD ∷ [])) ∷ []) (point.OrC ∷ []) (row.Enter2 non-term.OrC non-term.Expression) tt refl c.in_default-code.in_default-code-own.rest refl c.un_next.ensures
+pub returns-in_default : goal.returns-in_default
+returns-in_default c = λ segwit script. put_back_lem segwit _ script c.args.tokens.now c.args.left c.next.ensures c.in_ok-token.was (point.opcode 16 (point.enter (point.Expression ∷ point.OrD ∷ [])) ∷ []) (point.OrC ∷ []) (row.Enter2 non-term.OrC non-term.Expression) tt refl c.in_default.in_default-own.rest refl c.un_next.ensures c.ask-in_default.ensures

@@ -7,11 +7,11 @@ use Rattle.standard.specs.Rows as point
 use mathlib.Core.List.{[], ◌∷◌}
 use mathlib.Core.Path.{refl}
 
-pub returns-in_default : goal.returns-in_default
-returns-in_default c = λ segwit script. dry segwit _ script c.args.tokens.now c.args.left c.next-taken.ensures c.in_default.is
+pub returns-in_err-token : goal.returns-in_err-token
+returns-in_err-token c = λ segwit script. dry segwit _ script c.args.tokens.now c.args.left c.next.ensures c.from_residual.result c.in_err-token.was c.from_residual.ensures.1
 
 pub returns-in-4 : goal.returns-in-4
-returns-in-4 c = λ segwit script. onward segwit _ script c.args.tokens.now c.args.left c.next-taken.ensures c.in-Token.is 4 _ c.in-4.is refl (c.after_verify_equal.ensures segwit script)
+returns-in-4 c = λ segwit script. onward segwit _ script c.args.tokens.now c.args.left c.next.ensures c.in_ok-token.was 4 _ c.in-4.is refl (c.after_verify_equal.ensures segwit script)
 
-pub returns-in_default-code : goal.returns-in_default-code
-returns-in_default-code c = λ segwit script. put_back_lem segwit _ script c.args.tokens.now c.args.left c.next-taken.ensures c.in-Token.is (point.opcode 4 (point.read_on point.afterVerifyEqual) ∷ []) (point.Verify ∷ []) (row.Enter2 non-term.Verify non-term.Expression) tt refl c.in_default-code.in_default-code-own.rest refl c.un_next.ensures
+pub returns-in_default : goal.returns-in_default
+returns-in_default c = λ segwit script. put_back_lem segwit _ script c.args.tokens.now c.args.left c.next.ensures c.in_ok-token.was (point.opcode 4 (point.read_on point.afterVerifyEqual) ∷ []) (point.Verify ∷ []) (row.Enter2 non-term.Verify non-term.Expression) tt refl c.in_default.in_default-own.rest refl c.un_next.ensures c.ask.ensures

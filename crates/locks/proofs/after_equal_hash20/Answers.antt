@@ -3,14 +3,14 @@ use Rattle.locks.proofs.after_equal_hash20.Goals as goal
 use Rattle.row.proofs.TakenLaws.{dry, onward, unfit}
 use mathlib.Core.Path.{refl}
 
-pub returns-in_default : goal.returns-in_default
-returns-in_default c = λ segwit script bytes. dry segwit _ script c.args.tokens.now c.args.left c.next-taken.ensures c.in_default.is
+pub returns-in_err-token : goal.returns-in_err-token
+returns-in_err-token c = λ segwit script bytes. dry segwit _ script c.args.tokens.now c.args.left c.next.ensures c.from_residual.result c.in_err-token.was c.from_residual.ensures.1
 
 pub returns-in-24 : goal.returns-in-24
-returns-in-24 c = λ segwit script bytes. onward segwit _ script c.args.tokens.now c.args.left c.next-taken.ensures c.in-Token.is 24 _ c.in-24.is refl (c.lock_verify.ensures segwit script bytes)
+returns-in-24 c = λ segwit script bytes. onward segwit _ script c.args.tokens.now c.args.left c.next.ensures c.in_ok-token.was 24 _ c.in-24.is refl (c.lock_verify.ensures segwit script bytes)
 
 pub returns-in-25 : goal.returns-in-25
-returns-in-25 c = λ segwit script bytes. onward segwit _ script c.args.tokens.now c.args.left c.next-taken.ensures c.in-Token.is 25 _ c.in-25.is refl (c.lock_verify-in-25.ensures segwit script bytes)
+returns-in-25 c = λ segwit script bytes. onward segwit _ script c.args.tokens.now c.args.left c.next.ensures c.in_ok-token.was 25 _ c.in-25.is refl (c.lock_verify-in-25.ensures segwit script bytes)
 
-pub returns-in_default-code : goal.returns-in_default-code
-returns-in_default-code c = λ segwit script bytes. unfit segwit _ script c.args.tokens.now c.args.left c.next-taken.ensures c.in-Token.is tt refl c.in_default-code.in_default-code-own.rest
+pub returns-in_default : goal.returns-in_default
+returns-in_default c = λ segwit script bytes. unfit segwit _ script c.args.tokens.now c.args.left c.next.ensures c.in_ok-token.was tt refl c.in_default.in_default-own.rest c.refuse.ensures

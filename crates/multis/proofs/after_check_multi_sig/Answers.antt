@@ -1,5 +1,4 @@
 -- `multis::after_check_multi_sig` meets its contract: token by token, by TakenLaws of `row`.
--- `multis::after_check_multi_sig` meets its contract: token by token, by TakenLaws of `row`.
 use Rattle.lex.specs.Token.{num}
 use Rattle.multis.proofs.TestLaws.{tested_led}
 use Rattle.multis.proofs.after_check_multi_sig.Goals as goal
@@ -10,11 +9,11 @@ use mathlib.Core.List.{[]}
 use mathlib.Core.Path.{refl}
 use mathlib.Core.Path.{◌∙◌}
 
-pub returns-in_default : goal.returns-in_default
-returns-in_default c = dry c.args.segwit _ c.args.script.now c.args.tokens.now c.args.left c.next-taken.ensures c.in_default.is
+pub returns-in_err-token : goal.returns-in_err-token
+returns-in_err-token c = dry c.args.segwit _ c.args.script.now c.args.tokens.now c.args.left c.next.ensures c.from_residual.result c.in_err-token.was c.from_residual.ensures.1
 
 pub returns-in-28 : goal.returns-in-28
-returns-in-28 c = arm c.args.segwit _ c.args.script.now c.args.tokens.now c.args.left c.next-taken.ensures c.in-Token.is 28 c.in-28.is (c.multi_count.ensures ∙ tested_led c.args.segwit point.afterCheckMultiSig (point.multi_keys c.in-Token.number []) c.args.script.now c.args.tokens.now c.in-Token.rest (multi_count c.in-Token.number) (num c.in-Token.number))
+returns-in-28 c = arm c.args.segwit _ c.args.script.now c.args.tokens.now c.args.left c.next.ensures c.in_ok-token.was 28 c.in-28.is (c.multi_count.ensures ∙ tested_led c.args.segwit point.afterCheckMultiSig (point.multi_keys c.in_ok-token.token.number []) c.args.script.now c.args.tokens.now c.in_ok-token.token.left (multi_count c.in_ok-token.token.number) (num c.in_ok-token.token.number))
 
-pub returns-in_default-code : goal.returns-in_default-code
-returns-in_default-code c = unfit c.args.segwit _ c.args.script.now c.args.tokens.now c.args.left c.next-taken.ensures c.in-Token.is tt refl c.in_default-code.in_default-code-own.rest
+pub returns-in_default : goal.returns-in_default
+returns-in_default c = unfit c.args.segwit _ c.args.script.now c.args.tokens.now c.args.left c.next.ensures c.in_ok-token.was tt refl c.in_default.in_default-own.rest c.refuse.ensures

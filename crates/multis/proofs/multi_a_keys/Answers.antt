@@ -7,7 +7,7 @@ use Rattle.std.specs.Prelude.{not}
 use mathlib.Core.Path.{◌∙◌}
 
 pub keys-preserved : goal.keys-preserved
-keys-preserved c = again c.args.segwit c.args.tokens.now c.args.k c.args.from c.keys.left c.keys.n _ c.keys.invariant (is_added c.check_sig_add_ahead.ensures (ap not c.if-not-check_sig_add_ahead.false)) c.added_key-key.ensures c.if-key-ne0.false
+keys-preserved c = again c.args.segwit c.args.tokens.now c.args.k c.args.from c.keys.left c.keys.n _ c.keys.invariant (is_added c.check_sig_add_ahead.ensures (ap not c.if-not-check_sig_add_ahead.false)) c.added_key.ensures c.in-Ok.is
 
-pub returns-then-key-ne0 : goal.returns-then-key-ne0
-returns-then-key-ne0 c = λ script. key_refused c.args.segwit c.args.tokens.now c.args.k script c.keys.left (datas_from script c.args.tokens.now c.keys.n c.keys.left) _ (is_added c.check_sig_add_ahead.ensures (ap not c.if-not-check_sig_add_ahead.false)) c.added_key-key.ensures c.if-key-ne0.true ∙ c.keys.invariant.same script
+pub returns-in-Err : goal.returns-in-Err
+returns-in-Err c = λ script. key_refused c.args.segwit c.args.tokens.now c.args.k script c.keys.left (datas_from script c.args.tokens.now c.keys.n c.keys.left) (is_added c.check_sig_add_ahead.ensures (ap not c.if-not-check_sig_add_ahead.false)) c.added_key.ensures c.in-Err.is ∙ c.keys.invariant.same script

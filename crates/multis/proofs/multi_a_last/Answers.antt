@@ -1,16 +1,15 @@
 -- `multis::multi_a_last` meets its contract: token by token, by TakenLaws of `row`.
--- `multis::multi_a_last` meets its contract: token by token, by TakenLaws of `row`.
 use Rattle.multis.proofs.MultiALaws.{not_added, behind}
 use Rattle.multis.proofs.MultiALaws.{not_added}
 use Rattle.multis.proofs.multi_a_last.Goals as goal
 use Rattle.row.proofs.TakenLaws.{dry, onward, unfit}
 use mathlib.Core.Path.{refl}
 
-pub returns-in_default : goal.returns-in_default
-returns-in_default c = λ script passed. dry c.args.segwit _ script c.args.tokens.now c.args.left c.next-taken.ensures c.in_default.is
+pub returns-in_err-token : goal.returns-in_err-token
+returns-in_err-token c = λ script passed. dry c.args.segwit _ script c.args.tokens.now c.args.left c.next.ensures c.from_residual.result c.in_err-token.was c.from_residual.ensures.1
 
 pub returns-in-6 : goal.returns-in-6
-returns-in-6 c = λ script passed. onward c.args.segwit _ script c.args.tokens.now c.args.left c.next-taken.ensures c.in-Token.is 6 _ c.in-6.is refl (behind c.args.segwit c.args.tokens.now c.args.left c.args.k c.args.n c.after_check_sig.result c.next-taken.ensures c.in-Token.is c.after_check_sig.ensures script passed)
+returns-in-6 c = λ script passed. onward c.args.segwit _ script c.args.tokens.now c.args.left c.next.ensures c.in_ok-token.was 6 _ c.in-6.is refl (behind c.args.segwit c.args.tokens.now c.args.left c.args.k c.args.n c.after_check_sig.result c.next.ensures c.in_ok-token.was c.after_check_sig.ensures script passed)
 
-pub returns-in_default-code : goal.returns-in_default-code
-returns-in_default-code c = λ script passed. unfit c.args.segwit _ script c.args.tokens.now c.args.left c.next-taken.ensures c.in-Token.is tt refl ((tt, not_added c.args.tokens.now c.args.left c.next-taken.ensures c.in-Token.is c.requires.left_value), c.in_default-code.in_default-code-own.rest.1)
+pub returns-in_default : goal.returns-in_default
+returns-in_default c = λ script passed. unfit c.args.segwit _ script c.args.tokens.now c.args.left c.next.ensures c.in_ok-token.was tt refl ((tt, not_added c.args.tokens.now c.args.left c.next.ensures c.in_ok-token.was c.requires.left_value), c.in_default.in_default-own.rest.1) c.refuse.ensures

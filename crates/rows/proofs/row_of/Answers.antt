@@ -12,13 +12,13 @@ pub returns-in-WExpression : goal.returns-in-WExpression
 returns-in-WExpression c = by_point c.args.segwit c.args.script.now c.args.tokens.now c.args.left c.args.entry non-term.WExpression point.inWExpression c.in-WExpression.is (λ tokens. refl) (c.w_expression.ensures c.args.segwit c.args.script.now)
 
 pub returns-in-Swap : goal.returns-in-Swap
-returns-in-Swap c = by_point c.args.segwit c.args.script.now c.args.tokens.now c.args.left c.args.entry non-term.Swap point.inSwap c.in-Swap.is (λ tokens. refl) (c.swap_prefix.ensures c.args.segwit c.args.script.now)
+returns-in-Swap c = by_point c.args.segwit c.args.script.now c.args.tokens.now c.args.left c.args.entry non-term.Swap point.inSwap c.in-Swap.is (λ tokens. refl) (c.prefix.ensures.swap refl refl c.args.segwit c.args.script.now)
 
 pub returns-in-MaybeAndV : goal.returns-in-MaybeAndV
 returns-in-MaybeAndV c = by_entry c.args.segwit c.args.script.now c.args.tokens.now c.args.left c.args.entry non-term.MaybeAndV c.in-MaybeAndV.is (c.maybe_and_v.ensures c.args.segwit c.args.script.now)
 
 pub returns-in-Alt : goal.returns-in-Alt
-returns-in-Alt c = by_point c.args.segwit c.args.script.now c.args.tokens.now c.args.left c.args.entry non-term.Alt point.inAlt c.in-Alt.is (λ tokens. refl) (c.alt_prefix.ensures c.args.segwit c.args.script.now)
+returns-in-Alt c = by_point c.args.segwit c.args.script.now c.args.tokens.now c.args.left c.args.entry non-term.Alt point.inAlt c.in-Alt.is (λ tokens. refl) (c.prefix-in-Alt.ensures.alt refl refl c.args.segwit c.args.script.now)
 
 pub returns-in-AndV : goal.returns-in-AndV
 returns-in-AndV c = by_entry c.args.segwit c.args.script.now c.args.tokens.now c.args.left c.args.entry non-term.AndV c.in-AndV.is (c.and_v.ensures c.args.segwit c.args.script.now)

@@ -2,11 +2,11 @@
 use Rattle.rows.proofs.EntryLaws.{no_child, child_more, first_child}
 use Rattle.rows.proofs.thresh_w.Goals as goal
 
-pub returns-in_default : goal.returns-in_default
-returns-in_default c = λ segwit script. no_child segwit script c.args.tokens.now c.args.left c.args.k c.args.n c.next-taken.ensures c.in_default.is
+pub returns-in_err-token : goal.returns-in_err-token
+returns-in_err-token c = λ segwit script. no_child segwit script c.args.tokens.now c.args.left c.args.k c.args.n c.next.ensures c.from_residual.result c.in_err-token.was c.from_residual.ensures.1
 
 pub returns-in-3 : goal.returns-in-3
-returns-in-3 c = λ segwit script. child_more segwit script c.args.tokens.now c.args.left c.args.k c.args.n c.next-taken.ensures c.in-Token.is c.in-3.is
+returns-in-3 c = λ segwit script. child_more segwit script c.args.tokens.now c.args.left c.args.k c.args.n c.next.ensures c.in_ok-token.was c.in-3.is c.ask.ensures
 
-pub returns-in_default-code : goal.returns-in_default-code
-returns-in_default-code c = λ segwit script. first_child segwit script c.args.tokens.now c.args.left c.args.k c.args.n c.next-taken.ensures c.in-Token.is c.in_default-code.in_default-code-own.rest c.un_next.ensures
+pub returns-in_default : goal.returns-in_default
+returns-in_default c = λ segwit script. first_child segwit script c.args.tokens.now c.args.left c.args.k c.args.n c.next.ensures c.in_ok-token.was c.in_default.in_default-own.rest c.un_next.ensures c.ask-in_default.ensures

@@ -1,2 +1,0 @@
--- A law of the tokens.
-pub mod TakenBack
