@@ -54,7 +54,7 @@ fn step(
     ensures { Steps segwit script.now tokens.now nodes.old keys.old work.old nodes.new keys.new work.new s result }
 {
     let entry = work_list::take(work, s.work);
-    let found = rows::row_of(segwit, script, tokens, s.left, entry);
+    let found = rows::row_of(segwit, script, tokens, s.left, entry)?;
     let after = State {
         left: found.left,
         work: s.work - 1,
