@@ -40,7 +40,8 @@ impl Ran {
     }
 }
 
-// One entry taken off the work list.
+// One entry taken off the work list. The lent tables are handed on one by one: a struct that holds them would need a clause
+// more in each contract, that it still holds the same ones, and what writes to one table takes no other.
 fn step(
     segwit: bool,
     script: &[u8],
