@@ -1,3 +1,4 @@
 -- Laws that the proofs of this crate and of those above it cite.
+pub mod KindLaws
 pub mod ReductionLaws
 pub mod ThresholdLaws

@@ -11,7 +11,7 @@ use Rattle.decode.specs.declared.Answer.{Answer}
 use Rattle.node_records.specs.Records.{zero_record, records_from, record_table}
 use Rattle.read_records.specs.RecordOutcome.{RecordOutcome, with_records, record_outcome_at}
 use Rattle.encode.specs.declared.Encoded.{Encoded}
-use Rattle.encode_records.specs.RecordEncoding.{RecordEncoding, record_encoding, record_encoding_at}
+use Rattle.encode_records.specs.RecordEncoding.{record_encoding, record_encoding_at}
 use Rattle.own_records.specs.WrittenAgain.{after, again_from, written_again_at}
 
 from_length : (table : List ℕ) (i n : ℕ) → length (records_from table i n) ≡ n

@@ -8,14 +8,13 @@ use Rattle.lex.specs.Token.{Token}
 use Rattle.standard.specs.Table as standard
 use Rattle.standard.specs.Table.{cells}
 use Rattle.standard.specs.Outcome.{Lengths, refusing, accepting}
-use Rattle.judge.specs.declared.Node.{Node}
 use Rattle.encoding.specs.Encoding as encoding
 use Rattle.encoding.specs.Encoding.{encoding_of}
 use Rattle.encode.specs.declared.Encoded.{Encoded}
 use Rattle.node_records.specs.Records.{record_of, numbers_of, zero_record}
 use Rattle.read_records.specs.RecordOutcome.{widened, with_records}
 use Rattle.read_records.specs.RecordOutcomeTheorems.{accepted_records}
-use Rattle.encode_records.specs.RecordEncoding.{RecordEncoding, with_table, record_encoding}
+use Rattle.encode_records.specs.RecordEncoding.{with_table, record_encoding}
 use Rattle.encode_records.specs.RecordEncodingTheorems.{enough_room}
 use Rattle.own_records.specs.WrittenAgain.{WrittenAgain, nodes_read, written_again, written_again_at}
 

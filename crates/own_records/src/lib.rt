@@ -44,15 +44,6 @@ pub fn written_again(
     ensures { written_again_at result tokens.new nodes.new keys.new work.new out.new ≡ written_again kind script.now (lengths_of tokens.old nodes.old keys.old work.old) 8 out.old }
 {
     let mut records = [node_records::zero_record(); 8];
-    let a = read_records::read_records(
-        kind,
-        script,
-        tokens,
-        &mut *nodes,
-        &mut records,
-        &mut *keys,
-        &mut *work,
-    );
-    let n = read_records::nodes_of(a);
-    encode_records::encode_records(kind, &records[..n], nodes, &*keys, script, work, out)
+    let a = read_records::read_records(kind, script, tokens, nodes, &mut records, keys, work);
+    encode_records::encode_records(kind, &records[..a.nodes], nodes, keys, script, work, out)
 }

@@ -26,7 +26,6 @@ pub fn perform(
 {
     let m = s.nodes;
     match row {
-        Row::Refused(number) => Err(s.stop(number, 0)),
         Row::Enter0 => Ok(s),
         Row::Enter1(a) => writes::enter(work, s, &[a]),
         Row::Enter2(a, b) => writes::enter(work, s, &[a, b]),

@@ -8,16 +8,18 @@ use native.Mathlib.Omega.{arith}
 use lib.ListN.{get_or, take}
 use Rattle.tables.specs.Tables.{newest}
 use Rattle.standard.specs.Rows.{row_of}
-use Rattle.row.specs.declared.Found.{Found}
+use Rattle.row.specs.declared.Refused.{Refused}
 use Rattle.row.specs.declared.NonTerm.{NonTerm}
 use Rattle.row.specs.Tokens.{lexemes_left}
-use Rattle.row.specs.Request.{counted, entry_of, Reading, reading_asked, reading_of, request_of}
+use Rattle.row.specs.Request.{Request, refused, counted, entry_of, Reading, reading, reading_asked}
 use Rattle.judge.specs.NodeTable.{node_at}
 use Rattle.work_list.specs.Work.{unpacked, entry_at, work_of}
 use Rattle.lists.specs.Lists.{performed, step_by}
 use Rattle.lists.specs.Ready.{Ready, ReadyReading}
 use Rattle.writes.specs.declared.State.{State}
-use Rattle.writes.specs.Written.{Step, counts}
+use Rattle.writes.specs.Written.{Step, counts, stop_of_row}
+use Rattle.writes.specs.declared.Stop.{Stop}
+use Rattle.perform.proofs.PerformLaws.{refused_performs}
 use Rattle.perform.specs.View.{Inside, room_of, Kept, Performs, Steps}
 use Rattle.run.specs.Stepping.{Stepping}
 
@@ -36,18 +38,23 @@ module _ (segwit : Bool) (script tokens nodes keys work : List ℕ) (s : State) 
       let i = stepping.inside in
       record { in_nodes = i.in_nodes; in_keys = i.in_keys; in_work = omega (arith, i.in_work); few_nodes = i.few_nodes; few_keys = i.few_keys }
 
-  module _ (found : Found) (reads : reading_of script tokens found ≡ reading_asked segwit (row_of segwit (entry_of entry) (lexemes_left script tokens s.left))) where
-    read_at : reading_of script tokens found ≡ reading_asked segwit (row_of segwit (entry_at work (s.work - 1)) (lexemes_left script tokens s.left))
+  -- a row was read, or refused
+  module _ (asked : Request) (left : ℕ) (reads : reading asked (lexemes_left script tokens left) ≡ reading_asked segwit (row_of segwit (entry_of entry) (lexemes_left script tokens s.left))) where
+    read_at : reading asked (lexemes_left script tokens left) ≡ reading_asked segwit (row_of segwit (entry_at work (s.work - 1)) (lexemes_left script tokens s.left))
     read_at = reads ∙ ap (λ (e : NonTerm). reading_asked segwit (row_of segwit (entry_of e) (lexemes_left script tokens s.left))) taken
 
-    pub ready_after : Ready s.nodes nodes (request_of tokens found.row)
+    pub ready_after : Ready s.nodes nodes asked
     ready_after = subst (λ (r : Reading). ReadyReading s.nodes nodes r) (sym read_at) stepping.ready
 
-    pub stepped : {nodes' keys' work' : List ℕ} {r : Step} → Performs tokens nodes keys work nodes' keys' work' (counts found.left (s.work - 1) s.nodes s.keys) (request_of tokens found.row) r
-        → Steps segwit script tokens nodes keys work nodes' keys' work' s r
+    pub stepped : {nodes' keys' work' : List ℕ} {r : Step} → Performs tokens nodes keys work nodes' keys' work' (counts left (s.work - 1) s.nodes s.keys) asked r → Steps segwit script tokens nodes keys work nodes' keys' work' s r
     unfolding step_by
     stepped {nodes'} {keys'} {work'} {r} p =
         record {
           answers = p.answers script ∙ ap (λ (r : Reading). performed (room_of nodes keys work) r (work_of work (s.work - 1)) (newest (node_at nodes) s.nodes) (take s.keys keys)) read_at;
-          kept = same_kept nodes nodes' keys keys' s found.left (s.work - 1) r p.kept;
+          kept = same_kept nodes nodes' keys keys' s left (s.work - 1) r p.kept;
         }
+
+  pub row_refused : (e : Refused) {stop : Stop} → reading (refused e.number) (lexemes_left script tokens e.left) ≡ reading_asked segwit (row_of segwit (entry_of entry) (lexemes_left script tokens s.left))
+      → stop ≡ stop_of_row e → Steps segwit script tokens nodes keys work nodes keys work s (Err stop)
+  row_refused e reads is =
+      stepped (refused e.number) e.left reads (refused_performs tokens nodes keys work (counts e.left (s.work - 1) s.nodes s.keys) (inside_after e.left) e.number (ap Err is))

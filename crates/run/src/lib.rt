@@ -40,7 +40,8 @@ impl Ran {
     }
 }
 
-// One entry taken off the work list.
+// One entry taken off the work list. The lent tables are handed on one by one: a struct that holds them would need a clause
+// more in each contract, that it still holds the same ones, and what writes to one table takes no other.
 fn step(
     segwit: bool,
     script: &[u8],
@@ -54,7 +55,7 @@ fn step(
     ensures { Steps segwit script.now tokens.now nodes.old keys.old work.old nodes.new keys.new work.new s result }
 {
     let entry = work_list::take(work, s.work);
-    let found = rows::row_of(segwit, script, tokens, s.left, entry);
+    let found = rows::row_of(segwit, script, tokens, s.left, entry)?;
     let after = State {
         left: found.left,
         work: s.work - 1,

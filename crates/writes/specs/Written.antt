@@ -4,6 +4,7 @@ use Rattle.tables.specs.Choose.{pick}
 use Rattle.tables.specs.Tables.{put_at}
 use Rattle.standard.specs.Table.{Node, cells}
 use Rattle.row.specs.declared.NonTerm.TheVariants.{Verify}
+use Rattle.row.specs.declared.Refused.{Refused}
 use Rattle.judge.specs.Nodes.{Making, makes, refuses}
 use Rattle.work_list.specs.Work.{packed}
 use Rattle.writes.specs.declared.State.{State}
@@ -19,6 +20,10 @@ Step = Result State Stop
 -- a refusal is about the last token taken
 abbrev pub stop_of : State → ℕ → ℕ → Stop
 stop_of s number reason = record { number = number; reason = reason; left = s.left }
+
+-- that of a row, which has no reason
+abbrev pub stop_of_row : Refused → Stop
+stop_of_row e = record { number = e.number; reason = 0; left = e.left }
 
 abbrev pub stopped : State → ℕ → ℕ → Step
 stopped s number reason = Err (stop_of s number reason)

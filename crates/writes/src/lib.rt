@@ -9,10 +9,10 @@ ghost use Rattle.judge.specs.Nodes.{new_leaf};
 ghost use Rattle.judge.specs.NodeTable.{node_of, making_of};
 ghost use Rattle.work_list.specs.Work.{packed, AllSmall};
 ghost use Rattle.node_store.specs.Offsets.{Low};
-ghost use Rattle.writes.specs.Written.{stop_of, earlier_of, Enters, Stores, Finishes, Verified, Leaves, Keyed};
+ghost use Rattle.writes.specs.Written.{stop_of, stop_of_row, earlier_of, Enters, Stores, Finishes, Verified, Leaves, Keyed};
 
 use judge::Node;
-use row::NonTerm;
+use row::{NonTerm, Refused};
 
 // How many tokens are left, and how many entries, nodes and keys the tables hold.
 #[derive(Clone, Copy)]
@@ -39,6 +39,19 @@ impl State {
             number,
             reason,
             left: self.left,
+        }
+    }
+}
+
+// A row's refusal has no reason.
+impl From<Refused> for Stop {
+    ghost from_gives = { λ e stop. stop ≡ stop_of_row e };
+
+    fn from(e: Refused) -> Stop {
+        Stop {
+            number: e.number,
+            reason: 0,
+            left: e.left,
         }
     }
 }

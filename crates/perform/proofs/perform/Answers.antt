@@ -1,13 +1,9 @@
 -- `perform::perform` meets its contract.
 use Rattle.judge.specs.NodeTable.{node_of, making_of}
 use Rattle.perform.proofs.ArmLaws.{told, leaf_told, keys_told, one_told, two_told, three_told}
-use Rattle.perform.proofs.PerformLaws.{one_performs, two_performs, three_performs, many_performs, refused_performs, goes_performs}
+use Rattle.perform.proofs.PerformLaws.{one_performs, two_performs, three_performs, many_performs, goes_performs}
 use Rattle.perform.proofs.perform.Goals as goal
-use mathlib.Core.Path.{refl, ap}
-use Rattle.std.proofs.Common.{Err}
-
-pub returns-in-Refused : goal.returns-in-Refused
-returns-in-Refused c = told c.args.row _ c.in-Refused.is (refused_performs c.args.tokens.now c.args.nodes.now c.args.keys.now c.args.work.now c.args.s c.requires.inside _ (ap Err c.stop.ensures))
+use mathlib.Core.Path.{refl}
 
 pub returns-in-Enter0 : goal.returns-in-Enter0
 returns-in-Enter0 c = told c.args.row _ c.in-Enter0.is (goes_performs c.args.tokens.now c.args.nodes.now c.args.keys.now c.args.work.now c.args.s c.requires.inside refl)
