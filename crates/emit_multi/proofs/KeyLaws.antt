@@ -6,13 +6,14 @@ use Prim.Native.Nat.{ℕ, suc, ◌+◌, ◌-◌, ◌≤◌, ◌<◌}
 use native.Mathlib.Omega.{arith}
 use native.Mathlib.Numerals.{add-one}
 use lib.ListN.{length, get_or, take, drop}
-use lib.Seq.{drop-cons}
+use lib.Seq.{drop-cons, take-length}
+use native.Mathlib.Nat.{add-sub_cancel_left}
 use Rattle.lex.specs.Token.{CHECKSIGADD, BYTES32, BYTES33, Lexeme, op, num, push, data_at, data_length}
 use Rattle.standard.specs.Written.{keys_before, added_keys_before}
 use Rattle.standard.specs.Table.{keys_at, datas_at}
 use Rattle.emit.specs.declared.Pen.{Pen}
 use Rattle.emit.specs.Emission.{inked, penned, Room, inked_all, penned_all}
-use Rattle.pieces.proofs.WriteLaws.{whole_within, Emits}
+use Rattle.pieces.proofs.WriteLaws.{whole_within}
 use Rattle.emit_multi.specs.Multis.{multi_keys, added_keys, Ready}
 
 -- Several lexemes, and then several more
@@ -36,6 +37,10 @@ ready_split {size = size} {p = p} (x ∷ xs) ys r =
 
 pub ready_resized : {size other : ℕ} {p : Pen} {ls : List Lexeme} → size ≡ other → Ready size p ls → Ready other p ls
 ready_resized {p = p} {ls = ls} e r = subst (λ (k : ℕ). Ready k p ls) e r
+
+-- what writing a lexeme gives
+abbrev pub Emits : List ℕ → Pen → Lexeme → List ℕ → Pen → Type 0
+Emits out p l now r = (now ≡ inked out p l) × (r ≡ penned p l)
 
 -- One key
 
@@ -156,6 +161,9 @@ module _ (keys material : List ℕ) (first count i : ℕ) (h : i < count) (insid
       ∙ next_added keys material (first + i) (count - (i + 1)) (omega arith)
       ∙ ap (λ (k : ℕ). push BYTES32 (data_at material key_at 32) ∷ op CHECKSIGADD ∷ added_keys keys material (count - (i + 1)) k) further
 
+pub at_0 : (keys : List ℕ) (i : ℕ) → get_or keys i 0 ≡ get_or keys (0 + i) 0
+at_0 keys i = let e : i ≡ 0 + i = omega arith in ap (λ (k : ℕ). get_or keys k 0) e
+
 -- what a call needs, from what is ready
 module _ {size : ℕ} {p : Pen} (material : List ℕ) (x place : ℕ) (e : x ≡ place) (rest : List Lexeme) where
   pub key_ready : Ready size p (push BYTES33 (data_at material place 33) ∷ rest) → PushReady size p material x 33
@@ -195,6 +203,34 @@ emits_then out p xs ys now q next r a b = (
   b.0 ∙ ap (λ (x : Pen). inked_all now x ys) a.1 ∙ ap (λ (t : List ℕ). inked_all t (penned_all p xs) ys) a.0 ∙ sym (inked_append out p xs ys),
   b.1 ∙ ap (λ (x : Pen). penned_all x ys) a.1 ∙ sym (penned_append p xs ys),
 )
+
+-- the keys of a part of the key table are those that stand there in the table
+module _ (keys material : List ℕ) (first count : ℕ) where
+  abbrev part : List ℕ
+  part = take (first + count - first) (drop first keys)
+
+  part_whole : take (length part) (drop 0 part) ≡ take count (drop first keys)
+  part_whole = take-length part ∙ ap (λ (k : ℕ). take k (drop first keys)) (add-sub_cancel_left first count)
+
+  keys_part : multi_keys part material (length part) 0 ≡ multi_keys keys material count first
+  keys_part = ap (λ (ps : List ℕ). keys_before (keys_at material ps) []) part_whole
+
+  added_part : added_keys part material (length part) 0 ≡ added_keys keys material count first
+  added_part = ap (λ (ps : List ℕ). added_keys_before (datas_at material ps) []) part_whole
+
+  module _ {size : ℕ} {p : Pen} where
+    pub keys_part_ready : Ready size p (multi_keys keys material count first) → Ready size p (multi_keys part material (length part) 0)
+    keys_part_ready r = subst (Ready size p) (sym keys_part) r
+
+    pub added_part_ready : Ready size p (added_keys keys material count first) → Ready size p (added_keys part material (length part) 0)
+    added_part_ready r = subst (Ready size p) (sym added_part) r
+
+  module _ (out now : List ℕ) (p r : Pen) where
+    pub keys_part_emits : EmitsAll out p (multi_keys part material (length part) 0) now r → EmitsAll out p (multi_keys keys material count first) now r
+    keys_part_emits h = subst (λ (ls : List Lexeme). EmitsAll out p ls now r) keys_part h
+
+    pub added_part_emits : EmitsAll out p (added_keys part material (length part) 0) now r → EmitsAll out p (added_keys keys material count first) now r
+    added_part_emits h = subst (λ (ls : List Lexeme). EmitsAll out p ls now r) added_part h
 
 -- the keys behind the first lexemes, and the last two behind the keys
 module _ {size : ℕ} {p : Pen} (xs keys : List Lexeme) (l m : Lexeme) (r : Ready size p (xs ++ (keys ++ (l ∷ m ∷ [])))) where

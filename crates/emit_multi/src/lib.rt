@@ -9,54 +9,27 @@ ghost use Rattle.emit_multi.specs.Multis.{multi_keys, added_keys, multi_script, 
 use emit::Pen;
 use instruction::token;
 
-fn short(x: usize) -> u32
-    requires { x ≤ 4294967295 }
-    ensures { result ≡ x }
-{
-    x as u32
-}
-
 // <key1> ... <keyn>
-fn emit_keys(
-    keys: &[u32],
-    material: &[u8],
-    out: &mut [u8],
-    pen: Pen,
-    first: usize,
-    count: usize,
-) -> Pen
-    requires { (first + count ≤ length keys.now) × (Ready (length out.old) pen (multi_keys keys.now material.now count first)) }
-    ensures { (out.new ≡ inked_all out.old pen (multi_keys keys.now material.now count first)) × (result ≡ penned_all pen (multi_keys keys.now material.now count first)) }
+fn emit_keys(keys: &[u32], material: &[u8], out: &mut [u8], pen: Pen) -> Pen
+    requires { Ready (length out.old) pen (multi_keys keys.now material.now (length keys.now) 0) }
+    ensures { (out.new ≡ inked_all out.old pen (multi_keys keys.now material.now (length keys.now) 0)) × (result ≡ penned_all pen (multi_keys keys.now material.now (length keys.now) 0)) }
 {
     let mut p = pen;
-    let mut i = 0;
-    while i < count {
-        let place = tables::long(keys[first + i]);
-        p = emit::emit_push(out, p, material, place, 33);
-        i += 1;
+    for place in keys {
+        p = emit::emit_push(out, p, material, *place as usize, 33);
     }
     p
 }
 
 // <key2> CHECKSIGADD ... <keyn> CHECKSIGADD
-fn emit_added_keys(
-    keys: &[u32],
-    material: &[u8],
-    out: &mut [u8],
-    pen: Pen,
-    first: usize,
-    count: usize,
-) -> Pen
-    requires { (first + count ≤ length keys.now) × (Ready (length out.old) pen (added_keys keys.now material.now count first)) }
-    ensures { (out.new ≡ inked_all out.old pen (added_keys keys.now material.now count first)) × (result ≡ penned_all pen (added_keys keys.now material.now count first)) }
+fn emit_added_keys(keys: &[u32], material: &[u8], out: &mut [u8], pen: Pen) -> Pen
+    requires { Ready (length out.old) pen (added_keys keys.now material.now (length keys.now) 0) }
+    ensures { (out.new ≡ inked_all out.old pen (added_keys keys.now material.now (length keys.now) 0)) × (result ≡ penned_all pen (added_keys keys.now material.now (length keys.now) 0)) }
 {
     let mut p = pen;
-    let mut i = 0;
-    while i < count {
-        let place = tables::long(keys[first + i]);
-        let pushed = emit::emit_push(out, p, material, place, 32);
+    for place in keys {
+        let pushed = emit::emit_push(out, p, material, *place as usize, 32);
         p = emit::emit_op(out, pushed, token::CHECK_SIG_ADD);
-        i += 1;
     }
     p
 }
@@ -75,8 +48,8 @@ pub fn emit_multi(
     ensures { (out.new ≡ inked_all out.old pen (multi_script keys.now material.now k count first)) × (result ≡ penned_all pen (multi_script keys.now material.now k count first)) }
 {
     let a = emit::emit_number(out, pen, k);
-    let b = emit_keys(keys, material, out, a, first, count);
-    let c = emit::emit_number(out, b, short(count));
+    let b = emit_keys(&keys[first..first + count], material, out, a);
+    let c = emit::emit_number(out, b, count as u32);
     emit::emit_op(out, c, token::CHECK_MULTI_SIG)
 }
 
@@ -93,10 +66,9 @@ pub fn emit_multi_a(
     requires { (first + 1 + further ≤ length keys.now) × (Ready (length out.old) pen (multi_a_script keys.now material.now k further first)) }
     ensures { (out.new ≡ inked_all out.old pen (multi_a_script keys.now material.now k further first)) × (result ≡ penned_all pen (multi_a_script keys.now material.now k further first)) }
 {
-    let place = tables::long(keys[first]);
-    let a = emit::emit_push(out, pen, material, place, 32);
+    let a = emit::emit_push(out, pen, material, keys[first] as usize, 32);
     let b = emit::emit_op(out, a, token::CHECK_SIG);
-    let c = emit_added_keys(keys, material, out, b, first + 1, further);
+    let c = emit_added_keys(&keys[first + 1..first + 1 + further], material, out, b);
     let d = emit::emit_number(out, c, k);
     emit::emit_op(out, d, token::NUM_EQUAL)
 }

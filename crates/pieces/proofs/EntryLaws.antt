@@ -1,27 +1,20 @@
 -- Entering pieces into the work table: the loops, and the list of pieces that the table then holds. Assumes nothing.
 use mathlib.Core.Path.{◌≡◌, refl, sym, ap, ◌∙◌}
 use mathlib.Core.Bool.{Bool, true, false}
-use mathlib.Core.List.{List, [], ◌∷◌, ◌++◌, map, reverse_aux}
+use mathlib.Core.List.{List, [], ◌∷◌, ◌++◌, map, reverse, reverse_aux, reverse-append}
 use Prim.Native.Nat.{ℕ, zero, suc, ◌+◌, ◌-◌, ◌*◌, ◌/◌, ◌%◌, ◌≤◌, ◌<◌}
 use native.Mathlib.Nat.{mod-eq_of_lt}
 use native.Mathlib.Omega.{arith}
 use lib.Dec.{eqb}
-use lib.ListN.{length, get_or, set, length-set, length-append}
-use borrow.Author.Tests.{eq-eqb, ne_eqb}
+use lib.ListN.{length, get_or, set, length-set, length-append, length-reverse}
 use Rattle.tables.specs.Choose.{pick}
 use Rattle.tables.specs.Tables.{put_at}
-use Rattle.tables.proofs.PutLaws.{put_length, put_more, put_before, put_inside}
+use Rattle.tables.proofs.PutLaws.{put_more, put_before, put_inside}
 use Rattle.tables.proofs.NewestLaws.{newest_grown, newest_pop}
 use Rattle.lex.specs.Token.{ADD, EQUAL, NUM}
-use Rattle.pieces.specs.Pieces.{Piece, SUBTREE, piece_for, value_for, entry_for, entries, piece_of, pieces_in, add_tags, thresh_tags, tags_in}
+use Rattle.pieces.specs.Pieces.{Piece, SUBTREE, piece_for, value_for, entry_for, entries, piece_of, pieces_in, add_tags, thresh_tags}
 
 -- One entry
-
-pub entry_number : (number place tag : ℕ) (x : ℕ) → x ≡ number → tag ≡ 28 → tag + 64 * x ≡ entry_for number place tag
-entry_number number place tag x e h = ap (λ (k : ℕ). tag + 64 * k) (e ∙ rw (eq-eqb tag 28 h) refl)
-
-pub entry_place : (number place tag : ℕ) (x : ℕ) → x ≡ place → (tag ≡ 28 → ⊥) → tag + 64 * x ≡ entry_for number place tag
-entry_place number place tag x e h = ap (λ (k : ℕ). tag + 64 * k) (e ∙ rw (ne_eqb tag 28 h) refl)
 
 value_small : (number place tag : ℕ) → number < 4294967296 → place < 4294967296 → value_for number place tag < 4294967296
 value_small number place tag a b = by (eqb tag NUM)
@@ -99,28 +92,15 @@ entries_more before w number place done tag x n now h e f =
     map_snoc [] = refl
     map_snoc (y ∷ l) = ap (λ (r : List ℕ). entry_for number place y ∷ r) (map_snoc l)
 
--- The loop over a template
+-- The loop over the tags of a template
 
--- n is nothing when so many bytes are taken off
-abbrev pub Bounded : ℕ → ℕ → Type 0
-Bounded zero n = n ≡ 0
-Bounded (suc most) n = Bounded most (n / 256)
-
-pub bounded_word : (n : ℕ) → n < 18446744073709551616 → Bounded 8 n
-bounded_word n h = omega arith
-
-pub record Entering (before now : List ℕ) (w template number place rest n : ℕ) : Type 0 where
+-- `rest` are the tags still to be entered, the first one last
+pub record Entering (before now : List ℕ) (w number place : ℕ) (tags rest : List ℕ) (n : ℕ) : Type 0 where
   pub done : List ℕ
-  pub most : ℕ
-  pub tags : tags_in 8 template ≡ done ++ tags_in most rest
-  pub bounded : Bounded most rest
+  pub parts : reverse tags ≡ done ++ reverse rest
   pub at : n ≡ w + length done
   pub kept : length now ≡ length before
   pub holds : now ≡ put_at before w (entries number place done)
-
-tags_none : (most : ℕ) → tags_in most 0 ≡ []
-tags_none zero = refl
-tags_none (suc most) = refl
 
 append_none : (l : List ℕ) → l ++ [] ≡ l
 append_none [] = refl
@@ -130,47 +110,35 @@ snoc : (l : List ℕ) (x : ℕ) (r : List ℕ) → l ++ (x ∷ r) ≡ (l ++ (x �
 snoc [] x r = refl
 snoc (y ∷ l) x r = ap (λ (s : List ℕ). y ∷ s) (snoc l x r)
 
-module _ {before : List ℕ} {w template number place : ℕ} where
-  pub template_begun : template < 18446744073709551616 → Entering before before w template number place template w
-  template_begun h = record { done = []; most = 8; tags = refl; bounded = bounded_word template h; at = omega arith; kept = refl; holds = refl }
+module _ {before : List ℕ} {w number place : ℕ} {tags : List ℕ} where
+  pub tags_begun : (rest : List ℕ) → rest ≡ tags → Entering before before w number place tags rest w
+  tags_begun rest e = record { done = []; parts = ap reverse (sym e); at = omega arith; kept = refl; holds = refl }
 
-  module _ {now : List ℕ} {rest n : ℕ} (c : Entering before now w template number place rest n) where
-    abbrev Next : Type 0
-    Next = (most : ℕ) × (tags_in 8 template ≡ (c.done ++ (rest % 256 ∷ [])) ++ tags_in most (rest / 256)) × Bounded most (rest / 256)
+  module _ {now rest : List ℕ} {n : ℕ} (c : Entering before now w number place tags rest n) where
+    lengths : length tags ≡ length c.done + length rest
+    lengths = omega (arith, length-reverse tags, ap length c.parts, length-append c.done (reverse rest), length-reverse rest)
 
-    next : 0 < rest → Next
-    next h = by c.most c.tags c.bounded
+    module _ (next : List ℕ) (tag : ℕ) (one : rest ≡ next ++ (tag ∷ [])) where
+      -- the entry lies within the table
+      pub tag_room : (room : ℕ) → w + length tags ≤ room → n < room
+      tag_room room g = omega (arith, lengths, c.at, ap length one, length-append next (tag ∷ []))
+
+      pub tag_turned : (x : ℕ) → x ≡ entry_for number place tag → Entering before (set now n x) w number place tags next (n + 1)
+      tag_turned x v =
+          record {
+            done = c.done ++ (tag ∷ []);
+            parts = c.parts ∙ ap (λ (l : List ℕ). c.done ++ l) (ap reverse one ∙ reverse-append next (tag ∷ [])) ∙ snoc c.done tag (reverse next);
+            at = omega (arith, c.at, length-append c.done (tag ∷ []));
+            kept = length-set now n x ∙ c.kept;
+            holds = entries_more before w number place c.done tag x n now c.holds c.at v;
+          }
+
+    pub tags_ended : length rest ≡ 0 → (now ≡ put_at before w (entries number place (reverse tags))) × (n ≡ w + length tags)
+    tags_ended h = by rest h c.parts lengths
       where
-        by : (most : ℕ) → tags_in 8 template ≡ c.done ++ tags_in most rest → Bounded most rest → Next
-        by zero e b = absurd (omega (arith, b))
-        by (suc most) e b =
-            let z : rest ≡ 0 → ⊥ = λ f. omega arith in
-            (most, e ∙ ap (λ (l : List ℕ). c.done ++ l) (rw (ne_eqb rest 0 z) refl) ∙ snoc c.done (rest % 256) (tags_in most (rest / 256)), b)
-
-    -- the entry lies within the table
-    pub template_room : 0 < rest → (room : ℕ) → w + length (tags_in 8 template) ≤ room → n < room
-    template_room h room g =
-        let x = next h in
-        omega (arith, ap length x.1, length-append (c.done ++ (rest % 256 ∷ [])) (tags_in x.0 (rest / 256)), length-append c.done (rest % 256 ∷ []), c.at)
-
-    pub template_turned : (x : ℕ) → 0 < rest → x ≡ entry_for number place (rest % 256) → Entering before (set now n x) w template number place (rest / 256) (n + 1)
-    template_turned x h v =
-        let y = next h in
-        record {
-          done = c.done ++ (rest % 256 ∷ []);
-          most = y.0;
-          tags = y.1;
-          bounded = y.2;
-          at = omega (arith, c.at, length-append c.done (rest % 256 ∷ []));
-          kept = length-set now n x ∙ c.kept;
-          holds = entries_more before w number place c.done (rest % 256) x n now c.holds c.at v;
-        }
-
-    pub template_ended : rest ≤ 0 → (now ≡ put_at before w (entries number place (tags_in 8 template))) × (n ≡ w + length (tags_in 8 template))
-    template_ended h =
-        let z : rest ≡ 0 = omega arith in
-        let e : tags_in 8 template ≡ c.done = c.tags ∙ ap (λ (k : ℕ). c.done ++ tags_in c.most k) z ∙ ap (λ (l : List ℕ). c.done ++ l) (tags_none c.most) ∙ append_none c.done in
-        (c.holds ∙ ap (λ (l : List ℕ). put_at before w (entries number place l)) (sym e), c.at ∙ ap (λ (l : List ℕ). w + length l) (sym e))
+        by : (rest : List ℕ) → length rest ≡ 0 → reverse tags ≡ c.done ++ reverse rest → length tags ≡ length c.done + length rest → (now ≡ put_at before w (entries number place (reverse tags))) × (n ≡ w + length tags)
+        by [] h p l = (c.holds ∙ ap (λ (l : List ℕ). put_at before w (entries number place l)) (sym (p ∙ append_none c.done)), omega (arith, c.at, l))
+        by (x ∷ rest) h p l = absurd (omega arith)
 
 -- The loop over a thresh's children
 
@@ -209,15 +177,6 @@ abbrev pub AddingFrom : List ℕ → List ℕ → ℕ → ℕ → ℕ → ℕ �
 AddingFrom start now w further number place i n = (before : List ℕ) → start ≡ put_at before w (entries number place (EQUAL ∷ NUM ∷ [])) → Adding before now w further number place i n
 
 module _ {before : List ℕ} {w further number place : ℕ} where
-  pub thresh_begun : (start : List ℕ) → start ≡ put_at before w (entries number place (EQUAL ∷ NUM ∷ [])) → Adding before start w further number place 0 (w + 2)
-  thresh_begun start e =
-      record {
-        within = omega arith;
-        at = omega arith;
-        kept = ap length e ∙ put_length before w (entries number place (EQUAL ∷ NUM ∷ []));
-        holds = e;
-      }
-
   module _ {now : List ℕ} {i n : ℕ} (c : Adding before now w further number place i n) where
     at_added : n ≡ w + length (added i)
     at_added = omega (arith, c.at, add_length i [])

@@ -1,4 +1,3 @@
 -- Laws of the pieces.
 pub mod EntryLaws
-pub mod TemplateLaws
 pub mod WriteLaws

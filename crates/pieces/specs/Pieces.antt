@@ -105,11 +105,6 @@ add_tags (suc n) rest = ADD ∷ SUBTREE ∷ add_tags n rest
 abbrev pub thresh_tags : ℕ → List ℕ
 thresh_tags further = EQUAL ∷ NUM ∷ add_tags further (SUBTREE ∷ [])
 
--- the bytes of a number up to its highest, the lowest first, at most so many
-abbrev pub tags_in : ℕ → ℕ → List ℕ
-tags_in zero n = []
-tags_in (suc most) n = pick (eqb n 0) [] (n % 256 ∷ tags_in most (n / 256))
-
 -- A lexeme that can be written: an opcode with a code from 1 on, a push with as many bytes as its code says
 
 abbrev pub Whole : Lexeme → Type 0

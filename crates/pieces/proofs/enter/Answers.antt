@@ -1,13 +1,22 @@
 -- `pieces::enter` meets its contract.
-use Rattle.pieces.proofs.EntryLaws.{template_begun, template_turned, template_ended}
+use Rattle.std.proofs.Common.{arith, ap, length, ◌∙◌}
+use Rattle.pieces.proofs.EntryLaws.{tags_begun, tag_room, tag_turned, tags_ended}
 use Rattle.pieces.proofs.enter.Goals as goal
-use native.Mathlib.Omega.{arith}
 
-pub loop-rest-init : goal.loop-rest-init
-loop-rest-init c = template_begun (omega arith)
+pub loop-tag-init : goal.loop-tag-init
+loop-tag-init c = let a = c.into_iter-tag-iterator.ensures.into_iter_gives in let b = c.rev-tag-items.ensures.source in let d = c.iter.ensures.rest in tags_begun _ (ap (λ s. s.iter.rest.now) a ∙ ap (λ s. s.rest.now) b ∙ d)
 
-pub loop-rest-preserved : goal.loop-rest-preserved
-loop-rest-preserved c = template_turned c.loop-rest.invariant c.entry.result c.loop-rest-test.true c.entry.ensures
+pub offset_bounds-work-n : goal.offset_bounds-work-n
+offset_bounds-work-n c = let t = tag_room c.loop-tag.invariant _ _ c.in-Some.ensures.steps (length c.args.work.now) c.requires in omega arith
+
+pub bounds-work-n : goal.bounds-work-n
+bounds-work-n c = let t = tag_room c.loop-tag.invariant _ _ c.in-Some.ensures.steps (length c.args.work.now) c.requires in omega arith
+
+pub overflow_add-n : goal.overflow_add-n
+overflow_add-n c = let t = tag_room c.loop-tag.invariant _ _ c.in-Some.ensures.steps (length c.args.work.now) c.requires in omega arith
+
+pub loop-tag-preserved : goal.loop-tag-preserved
+loop-tag-preserved c = tag_turned c.loop-tag.invariant _ _ c.in-Some.ensures.steps c.entry.result c.entry.ensures
 
 pub returns : goal.returns
-returns c = template_ended c.loop-rest.invariant c.loop-rest-test.false
+returns c = tags_ended c.loop-tag.invariant c.in-None.ensures.steps.0

@@ -1,10 +1,6 @@
 -- `pieces::enter_thresh` meets its contract.
-use Prim.Native.Nat.{◌-◌}
 use Rattle.pieces.proofs.EntryLaws.{AddingFrom}
 use Rattle.pieces.proofs.enter_thresh.Given as goal
 
-abbrev pub invariant-loop-i : goal.invariant-loop-i
-invariant-loop-i l = AddingFrom l.initial.work l.work l.w l.further l.number l.place l.i l.n
-
-abbrev pub decreases-loop-i : goal.decreases-loop-i
-decreases-loop-i l = l.further - l.i
+abbrev pub invariant-loop : goal.invariant-loop
+invariant-loop l = AddingFrom l.initial.work l.work l.w l.further l.number l.place l.counter l.n
