@@ -1,16 +1,16 @@
 -- Laying out a listing line by line: what is in the output and what is left of the listing stay the same text together. Assumes nothing.
 use mathlib.Core.Path.{◌≡◌, refl, sym, ap, subst, ◌∙◌}
-use mathlib.Core.Bool.{Bool, true, false}
+use Rattle.std.specs.Prelude.{Option, Some, None, is_some, unwrap_or}
+use mathlib.Core.Bool.{Bool, true, false, true≢false}
 use mathlib.Core.List.{List, [], ◌++◌, append_assoc}
 use Prim.Native.Nat.{ℕ, suc, ◌+◌, ◌-◌, ◌≤◌, ◌<◌}
 use native.Mathlib.Omega.{arith}
-use lib.Dec.{eqb, leb}
+use lib.Dec.{leb}
 use lib.ListN.{length, take}
 use borrow.Author.Tests.{leb-false}
 use Rattle.tables.specs.Choose.{pick}
 use Rattle.listing.specs.declared.Header.{Header}
 use Rattle.listing.specs.Output.{Put, write, put, puts}
-use Rattle.listing.specs.Lines.{header_line, node_line, type_word, key_line}
 use Rattle.listing.specs.Listing.{lines_from, listing, line_at}
 use Rattle.listing.specs.ListingLaws.{put_fits, put_moved, line_short, listing_is_its_lines}
 use Rattle.clerk.specs.declared.Hand.{Hand}
@@ -44,46 +44,37 @@ first_left h nodes keys next l =
 
 -- a line fitted
 pub line_laid : (h : Header) (nodes keys text out : List ℕ) (next end : ℕ) (after : List ℕ) (more lines : ℕ) → Laying h nodes keys text out next end → 8192 ≡ length out
-    → lines ≡ line_count h → next < lines → (more ≡ end → ⊥) → put after more ≡ puts out end (line_at h nodes keys next) → Laying h nodes keys text after (next + 1) more
-line_laid h nodes keys text out next end after more lines r l c n d p =
+    → lines ≡ line_count h → next < lines → put after (Some more) ≡ puts out end (line_at h nodes keys next) → Laying h nodes keys text after (next + 1) more
+line_laid h nodes keys text out next end after more lines r l c n p =
     let line : List ℕ = line_at h nodes keys next in
-    let fits : end + length line ≤ length out = put_moved out end line d p in
-    let q : (more ≡ end + length line) × (take more after ≡ take end out ++ line) = put_fits out end line fits p in
+    let fits : end + length line ≤ length out = put_moved out end line {out = after} {end = more} p in
+    let q : (Some more ≡ Some (end + length line)) × (take (end + length line) after ≡ take end out ++ line) = put_fits out end line {out = after} {end = Some more} fits p in
+    let e : more ≡ end + length line = ap (λ (o : Option ℕ). unwrap_or o 0) q.0 in
     record {
-      small = omega (arith, q.0);
+      small = omega (arith, e);
       whole =
-          ap (λ (front : List ℕ). front ++ rest_of h (next + 1) nodes keys) q.1
+          ap (λ (k : ℕ). take k after ++ rest_of h (next + 1) nodes keys) e
+          ∙ ap (λ (front : List ℕ). front ++ rest_of h (next + 1) nodes keys) q.1
           ∙ append_assoc (take end out) line (rest_of h (next + 1) nodes keys)
           ∙ ap (λ (rest : List ℕ). take end out ++ rest) (sym (first_left h nodes keys next (omega arith)))
           ∙ r.whole;
     }
 
--- a line has bytes
-line_long : (h : Header) (nodes keys : List ℕ) (k : ℕ) → 1 ≤ length (line_at h nodes keys k)
-unfolding line_at header_line node_line type_word key_line
-line_long h nodes keys k = here (eqb k 0) (leb k h.nodes)
+-- one that had no room changed nothing
+line_refused : (out : List ℕ) (at : ℕ) (text : List ℕ) {after : List ℕ} → put after None ≡ puts out at text → (length out < at + length text) × (after ≡ out)
+line_refused out at text {after} p = here (leb (at + length text) (length out)) refl p
   where
-    here : (s t : Bool) → 1 ≤ length (pick s (header_line h) (pick t (node_line nodes (k - 1)) (key_line keys (k - 1 - h.nodes))))
-    here true t = omega arith
-    here false true = omega arith
-    here false false = omega arith
-
--- so one that didn't move the end had no room, and changed nothing
-line_refused : (out : List ℕ) (at : ℕ) (text : List ℕ) {after : List ℕ} {end : ℕ} → 1 ≤ length text → end ≡ at → put after end ≡ puts out at text
-    → (length out < at + length text) × (after ≡ out)
-line_refused out at text {after} {end} l e p = here (leb (at + length text) (length out)) refl p
-  where
-    here : (t : Bool) → leb (at + length text) (length out) ≡ t → put after end ≡ pick t (put (write out at text) (at + length text)) (put out at)
+    here : (t : Bool) → leb (at + length text) (length out) ≡ t → put after None ≡ pick t (put (write out at text) (Some (at + length text))) (put out None)
         → (length out < at + length text) × (after ≡ out)
-    here true b q = let s : end ≡ at + length text = ap (λ (r : Put). r.end) q in absurd (omega arith)
+    here true b q = absurd (true≢false (sym (ap (λ (r : Put). is_some r.end) q)))
     here false b q = (leb-false (at + length text) (length out) b, ap (λ (r : Put). r.out) q)
 
 -- the output is full
-pub full : (h : Header) (nodes keys text out : List ℕ) (next end : ℕ) (after : List ℕ) (more : ℕ) → Laying h nodes keys text out next end → 8192 ≡ length out → more ≡ end
-    → put after more ≡ puts out end (line_at h nodes keys next)
+pub full : (h : Header) (nodes keys text out : List ℕ) (next end : ℕ) (after : List ℕ) → Laying h nodes keys text out next end → 8192 ≡ length out
+    → put after None ≡ puts out end (line_at h nodes keys next)
     → (end ≤ 8192) × (end ≡ 0 → line_count h ≤ next) × (take end after ++ rest_of h next nodes keys ≡ text)
-full h nodes keys text out next end after more r l e p =
-    let q : (length out < end + length (line_at h nodes keys next)) × (after ≡ out) = line_refused out end (line_at h nodes keys next) (line_long h nodes keys next) e p in
+full h nodes keys text out next end after r l p =
+    let q : (length out < end + length (line_at h nodes keys next)) × (after ≡ out) = line_refused out end (line_at h nodes keys next) p in
     (r.small, λ z. absurd (omega (arith, q.0, line_short h nodes keys next)), ap (λ (o : List ℕ). take end o ++ rest_of h next nodes keys) q.1 ∙ r.whole)
 
 -- all lines are laid out

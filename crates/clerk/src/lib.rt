@@ -60,10 +60,9 @@ fn lay_out(
     let lines = count_lines(hand.header);
     let mut end = used;
     for next in hand.next..lines {
-        let more = listing::put_line(out, end, hand.header, nodes, keys, next);
-        if more == end {
+        let Some(more) = listing::put_line(out, end, hand.header, nodes, keys, next) else {
             return moved(hand, next, end);
-        }
+        };
         end = more;
     }
     moved(hand, hand.next.max(lines), end)

@@ -2,32 +2,29 @@
 #![tactic(auto)]
 
 use lex::{Ample, Answer};
-use printing::{line, long, space, word};
+use printing::{line, space};
 
 // Number, place and tokens: document 01's three numbers of an answer.
 fn header(number: u32, place: usize, tokens: usize) {
-    io::print_hex(1, word(number), 2);
+    io::print_hex(1, u64::from(number), 2);
     space();
-    io::print_hex(1, long(place), 8);
+    io::print_hex(1, place as u64, 8);
     space();
-    io::print_hex(1, long(tokens), 8);
+    io::print_hex(1, tokens as u64, 8);
     line();
 }
 
 // The first n tokens of a table.
 fn show(table: &[u32], n: usize) {
-    let mut i = 0;
-    while i < n {
-        if table.len() - i < 2 * i + 3 {
-            break;
+    for token in table.chunks_exact(3).take(n) {
+        if let [code, number, place] = token {
+            io::print_hex(1, u64::from(*code), 2);
+            space();
+            io::print_hex(1, u64::from(*number), 8);
+            space();
+            io::print_hex(1, u64::from(*place), 8);
+            line();
         }
-        io::print_hex(1, word(table[3 * i]), 2);
-        space();
-        io::print_hex(1, word(table[3 * i + 1]), 8);
-        space();
-        io::print_hex(1, word(table[3 * i + 2]), 8);
-        line();
-        i += 1;
     }
 }
 
@@ -48,65 +45,70 @@ fn run(hex: &[u8], more: usize, room: usize) {
     let mut script = [0xaau8; 10001];
     let n = hex_text::unhex(hex, &mut script);
     let mut table = [7u32; 48];
-    if script.len() - n < more {
-        return;
-    }
-    if 16 < room {
+    if script.len() - n < more || 16 < room {
         return;
     }
     lex_and_show(&script[..n + more], &mut table[..3 * room]);
 }
 
 fn verify_rule() {
-    run(b"8769", 0, 16);
-    run(b"8869", 0, 16);
-    run(b"9c69", 0, 16);
-    run(b"ac69", 0, 16);
-    run(b"ae69", 0, 16);
-    run(b"88", 0, 16);
-    run(b"889dadaf", 0, 16);
+    for hex in ["8769", "8869", "9c69", "ac69", "ae69", "88", "889dadaf"] {
+        run(hex.as_bytes(), 0, 16);
+    }
 }
 
 fn numbers() {
-    run(b"0105", 0, 16);
-    run(b"0181", 0, 16);
-    run(b"0111", 0, 16);
-    run(b"0180", 0, 16);
-    run(b"0191", 0, 16);
-    run(b"027f00", 0, 16);
-    run(b"020080", 0, 16);
-    run(b"028000", 0, 16);
-    run(b"04ffffff7f", 0, 16);
-    run(b"050000000001", 0, 16);
+    for hex in [
+        "0105",
+        "0181",
+        "0111",
+        "0180",
+        "0191",
+        "027f00",
+        "020080",
+        "028000",
+        "04ffffff7f",
+        "050000000001",
+    ] {
+        run(hex.as_bytes(), 0, 16);
+    }
 }
 
 fn pushes() {
-    run(b"14", 20, 16);
-    run(b"20", 32, 16);
-    run(b"21", 33, 16);
-    run(b"41", 65, 16);
-    run(b"4c", 0, 16);
-    run(b"4c01", 0, 16);
-    run(b"4c4b", 75, 16);
-    run(b"4c4c", 76, 16);
-    run(b"4dff00", 255, 16);
-    run(b"4d0001", 256, 16);
-    run(b"4d0001", 255, 16);
-    run(b"4effff0000", 0, 16);
-    run(b"01", 0, 16);
-    run(b"5102aa", 0, 16);
+    for (hex, more) in [
+        ("14", 20),
+        ("20", 32),
+        ("21", 33),
+        ("41", 65),
+        ("4c", 0),
+        ("4c01", 0),
+        ("4c4b", 75),
+        ("4c4c", 76),
+        ("4dff00", 255),
+        ("4d0001", 256),
+        ("4d0001", 255),
+        ("4effff0000", 0),
+        ("01", 0),
+        ("5102aa", 0),
+    ] {
+        run(hex.as_bytes(), more, 16);
+    }
 }
 
 fn limits() {
-    run(b"", 0, 16);
-    run(b"", 10001, 16);
-    run(b"4f", 0, 16);
-    run(b"6351670068", 0, 16);
-    run(b"5188", 0, 2);
-    run(b"5188", 0, 3);
-    run(b"514f", 0, 1);
-    run(b"5151", 0, 1);
-    run(b"51", 0, 0);
+    for (hex, more, room) in [
+        ("", 0, 16),
+        ("", 10001, 16),
+        ("4f", 0, 16),
+        ("6351670068", 0, 16),
+        ("5188", 0, 2),
+        ("5188", 0, 3),
+        ("514f", 0, 1),
+        ("5151", 0, 1),
+        ("51", 0, 0),
+    ] {
+        run(hex.as_bytes(), more, room);
+    }
 }
 
 // The sizes that are ample for a script, or its refusal.
@@ -124,7 +126,7 @@ fn room_of(hex: &[u8]) {
         } => {
             header(0, 0, tokens);
             header(0, nodes, keys);
-            io::print_hex(1, long(work), 8);
+            io::print_hex(1, work as u64, 8);
             line();
         }
         Ample::Refused { number, place } => header(number, place, 0),
@@ -136,8 +138,7 @@ fn main() {
     numbers();
     pushes();
     limits();
-    room_of(b"");
-    room_of(b"516951");
-    room_of(b"889dadaf");
-    room_of(b"5102aa");
+    for hex in ["", "516951", "889dadaf", "5102aa"] {
+        room_of(hex.as_bytes());
+    }
 }

@@ -3,6 +3,7 @@
 use mathlib.Core.Path.{◌≡◌, refl, sym, ap, ◌∙◌}
 use mathlib.Core.Bool.{Bool, true, false, not}
 use mathlib.Core.List.{List, [], ◌∷◌, ◌++◌}
+use Rattle.std.specs.Prelude.{Some, None}
 use Prim.Native.Nat.{ℕ, ◌+◌, ◌-◌, ◌≤◌, ◌<◌}
 use native.Mathlib.Omega.{arith}
 use lib.Dec.{leb}
@@ -68,7 +69,7 @@ next_digits before at size text out end width n next nextEnd w h p =
 
 -- the two ends of a public function: refused for want of room, and the whole text written
 pub refused_for_room : (out : List ℕ) (at : ℕ) (text : List ℕ) (bytes : ℕ) {r : Bool} → length text ≡ bytes → r ≡ leb (at + bytes) (length out) → not r ≡ true
-    → put out at ≡ puts out at text
+    → put out None ≡ puts out at text
 refused_for_room out at text bytes {r} l e n =
     let f : leb (at + length text) (length out) ≡ false = ap (λ (k : ℕ). leb (at + k) (length out)) l ∙ sym e ∙ not-true r n in
     simp f
@@ -77,17 +78,17 @@ pub has_room : (out : List ℕ) (at bytes : ℕ) {r : Bool} → r ≡ leb (at + 
 has_room out at bytes {r} e n = leb-true (at + bytes) (length out) (sym e ∙ not-false r n)
 
 pub all_written : (before : List ℕ) (at size : ℕ) (text out : List ℕ) (end : ℕ) (whole : List ℕ) → Written before at size text out end → text ≡ whole
-    → put out end ≡ puts before at whole
+    → put out (Some end) ≡ puts before at whole
 all_written before at size text out end whole w e =
     let s : length text ≡ size = w.sized in
     let k : end ≡ at + length text = omega (arith, w.ends) in
     let f : leb (at + length text) (length before) ≡ true = le-leb (at + length text) (length before) (omega (arith, w.room)) in
-    ap (λ (o : List ℕ). put o end) w.holds
-    ∙ ap (λ (n : ℕ). put (write before at text) n) k
+    ap (λ (o : List ℕ). put o (Some end)) w.holds
+    ∙ ap (λ (n : ℕ). put (write before at text) (Some n)) k
     ∙ fitting f
     ∙ ap (λ (t : List ℕ). puts before at t) e
   where
-    fitting : leb (at + length text) (length before) ≡ true → put (write before at text) (at + length text) ≡ puts before at text
+    fitting : leb (at + length text) (length before) ≡ true → put (write before at text) (Some (at + length text)) ≡ puts before at text
     fitting f = simp f
 
 pub header_length : (h : Header) → length (header_line h) ≡ 51
@@ -102,7 +103,7 @@ pub header_written : (before : List ℕ) (at : ℕ) (h : Header) (o₁ o₂ o₃
     → PutWord o₄ e₄ 8 h.steps SPACE o₅ e₅
     → PutWord o₅ e₅ 8 h.nodes SPACE o₆ e₆
     → PutWord o₆ e₆ 8 h.keys LINE_FEED o₇ e₇
-    → put o₇ e₇ ≡ puts before at (header_line h)
+    → put o₇ (Some e₇) ≡ puts before at (header_line h)
 unfolding header_line
 header_written before at h o₁ o₂ o₃ o₄ o₅ o₆ o₇ e₁ e₂ e₃ e₄ e₅ e₆ e₇ room p₁ p₂ p₃ p₄ p₅ p₆ p₇ =
     let w₁ : _ = first_word before at 2 h.number SPACE o₁ e₁ (omega arith) p₁ in
@@ -146,7 +147,7 @@ pub node_written : (before : List ℕ) (at : ℕ) (nodes : List ℕ) (i : ℕ) (
     → PutWord o₃ e₃ 8 n₄ SPACE o₄ e₄
     → PutWord o₄ e₄ 8 n₅ SPACE o₅ e₅
     → (e₆ ≡ e₅ + 5) × (o₆ ≡ write o₅ e₅ (type_word nodes i ++ (LINE_FEED ∷ [])))
-    → put o₆ e₆ ≡ puts before at (node_line nodes i)
+    → put o₆ (Some e₆) ≡ puts before at (node_line nodes i)
 unfolding node_line
 node_written before at nodes i o₁ o₂ o₃ o₄ o₅ o₆ e₁ e₂ e₃ e₄ e₅ e₆ n₁ n₂ n₃ n₄ n₅ room q₁ q₂ q₃ q₄ q₅ p₁ p₂ p₃ p₄ p₅ p₆ =
     let w₁ : _ = first_word before at 2 n₁ SPACE o₁ e₁ (omega arith) p₁ in
@@ -162,7 +163,7 @@ unfolding key_line
 key_length_lem keys i = refl
 
 pub key_written : (before : List ℕ) (at : ℕ) (keys : List ℕ) (i : ℕ) (out : List ℕ) (end n : ℕ) → at + 9 ≤ length before → n ≡ get_or keys i 0
-    → PutWord before at 8 n LINE_FEED out end → put out end ≡ puts before at (key_line keys i)
+    → PutWord before at 8 n LINE_FEED out end → put out (Some end) ≡ puts before at (key_line keys i)
 unfolding key_line
 key_written before at keys i out end n room q p =
     all_written before at 9 _ out end (key_line keys i) (first_word before at 8 n LINE_FEED out end room p) (simp q)

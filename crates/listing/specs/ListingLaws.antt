@@ -1,7 +1,8 @@
 -- Theorems of the listing: digits that fit their width say the number, the listing is its lines one after the other, a refusal is its header alone, and one outcome meets a contract. Assumes nothing.
 -- Why the digits say the number: the last is what division by 16 leaves, and the others are those of the quotient, which fits one digit less.
-use Rattle.std.specs.Prelude.{◌≡◌, refl, Bool, true, false, List, [], ◌∷◌, ◌++◌, ℕ, zero, suc, ◌+◌, ◌-◌, ◌*◌, ◌/◌, ◌%◌, ◌^◌, ◌≤◌, ◌<◌, eqb, leb, ltb, length, take, drop}
+use Rattle.std.specs.Prelude.{◌≡◌, refl, Bool, true, false, List, [], ◌∷◌, ◌++◌, ℕ, zero, suc, ◌+◌, ◌-◌, ◌*◌, ◌/◌, ◌%◌, ◌^◌, ◌≤◌, ◌<◌, eqb, leb, ltb, length, take, drop, Option, Some, None, is_some, unwrap_or}
 use Rattle.std.proofs.Common.{sym, ap, subst, ◌∙◌, append_assoc, append-nil, pow-suc, mod-lt, div-lt_iff_lt-mul, arith, length-append, take_at, length-take-le, lt-ltb, le-ltb, ltb-true, ltb-false, le-leb, leb-true, ne_eqb}
+use mathlib.Core.Bool.{true≢false}
 use Rattle.std.proofs.Math.Nat.{div-add-mod}
 use Rattle.std.proofs.lemmas.Bool.{lt-leb}
 use Rattle.tables.specs.Choose.{pick}
@@ -95,39 +96,37 @@ pub refusal_is_its_header : (h : Header) (nodes keys : List ℕ) → h.nodes ≡
 refusal_is_its_header h nodes keys p q = simp (p, q, append-nil)
 
 -- any function here: two outcomes that meet the contract are the same
-pub one_outcome_of_put : (before : List ℕ) (at : ℕ) (text : List ℕ) {out other : List ℕ} {end otherEnd : ℕ} → put out end ≡ puts before at text
+pub one_outcome_of_put : (before : List ℕ) (at : ℕ) (text : List ℕ) {out other : List ℕ} {end otherEnd : Option ℕ} → put out end ≡ puts before at text
     → put other otherEnd ≡ puts before at text → (out ≡ other) × (end ≡ otherEnd)
 one_outcome_of_put before at text p q = (ap (λ (r : Put). r.out) (p ∙ sym q), ap (λ (r : Put). r.end) (p ∙ sym q))
 
--- where the text ends lies in the output, if the position did
-pub put_within : (before : List ℕ) (at : ℕ) (text : List ℕ) {out : List ℕ} {end : ℕ} → put out end ≡ puts before at text → at ≤ length before → end ≤ length before
-put_within before at text {out} {end} p h = here (leb (at + length text) (length before)) refl (ap (λ (r : Put). r.end) p)
+-- an end says that the text fitted
+pub put_moved : (before : List ℕ) (at : ℕ) (text : List ℕ) {out : List ℕ} {end : ℕ} → put out (Some end) ≡ puts before at text → at + length text ≤ length before
+put_moved before at text {out} {end} p = here (leb (at + length text) (length before)) refl (ap (λ (r : Put). is_some r.end) p)
   where
-    here : (t : Bool) → leb (at + length text) (length before) ≡ t → end ≡ (pick t (put (write before at text) (at + length text)) (put before at)).end → end ≤ length before
-    here true e q = omega (arith, q, leb-true (at + length text) (length before) e)
-    here false e q = omega (arith, q)
+    here : (t : Bool) → leb (at + length text) (length before) ≡ t → true ≡ is_some (pick t (put (write before at text) (Some (at + length text))) (put before None)).end
+        → at + length text ≤ length before
+    here true e q = leb-true (at + length text) (length before) e
+    here false e q = absurd (true≢false q)
 
 -- a text that fits is put behind what stands before it
-pub put_fits : (before : List ℕ) (at : ℕ) (text : List ℕ) {out : List ℕ} {end : ℕ} → at + length text ≤ length before → put out end ≡ puts before at text
-    → (end ≡ at + length text) × (take end out ≡ take at before ++ text)
+pub put_fits : (before : List ℕ) (at : ℕ) (text : List ℕ) {out : List ℕ} {end : Option ℕ} → at + length text ≤ length before → put out end ≡ puts before at text
+    → (end ≡ Some (at + length text)) × (take (at + length text) out ≡ take at before ++ text)
 unfolding write
 put_fits before at text {out} {end} h p =
-    let f : puts before at text ≡ put (write before at text) (at + length text) = simp (le-leb (at + length text) (length before) h) in
-    let e : end ≡ at + length text = ap (λ (r : Put). r.end) (p ∙ f) in
+    let f : puts before at text ≡ put (write before at text) (Some (at + length text)) = simp (le-leb (at + length text) (length before) h) in
     let l : length (take at before ++ text) ≡ at + length text = length-append (take at before) text ∙ ap (λ (k : ℕ). k + length text) (length-take-le at before (omega arith)) in (
-      e,
-      ap (λ (o : List ℕ). take end o) (ap (λ (r : Put). r.out) (p ∙ f))
-          ∙ ap (λ (k : ℕ). take k ((take at before ++ text) ++ drop (at + length text) before)) e
+      ap (λ (r : Put). r.end) (p ∙ f),
+      ap (λ (o : List ℕ). take (at + length text) o) (ap (λ (r : Put). r.out) (p ∙ f))
           ∙ take_at (take at before ++ text) (drop (at + length text) before) (at + length text) l,
     )
 
--- a position that has moved says that the text fitted
-pub put_moved : (before : List ℕ) (at : ℕ) (text : List ℕ) {out : List ℕ} {end : ℕ} → (end ≡ at → ⊥) → put out end ≡ puts before at text → at + length text ≤ length before
-put_moved before at text {out} {end} n p = here (leb (at + length text) (length before)) refl (ap (λ (r : Put). r.end) p)
-  where
-    here : (t : Bool) → leb (at + length text) (length before) ≡ t → end ≡ (pick t (put (write before at text) (at + length text)) (put before at)).end → at + length text ≤ length before
-    here true e q = leb-true (at + length text) (length before) e
-    here false e q = absurd (n q)
+-- where the text ends lies in the output
+pub put_within : (before : List ℕ) (at : ℕ) (text : List ℕ) {out : List ℕ} {end : ℕ} → put out (Some end) ≡ puts before at text → end ≤ length before
+put_within before at text {out} {end} p =
+    let fits : at + length text ≤ length before = put_moved before at text {out = out} {end = end} p in
+    let e : end ≡ at + length text = ap (λ (o : Option ℕ). unwrap_or o 0) (put_fits before at text {out = out} {end = Some end} fits p).0 in
+    omega (arith, e, fits)
 
 -- one line more
 pub lines_next : (f : ℕ → List ℕ) (k : ℕ) → lines_from f 0 (k + 1) ≡ lines_from f 0 k ++ f k

@@ -26,22 +26,16 @@ pub const NODE_BYTES: usize = 44;
 
 pub const KEY_BYTES: usize = 9;
 
-fn low_byte(x: u32) -> u8
-    requires { x < 256 }
-    ensures { result ≡ x }
-{
-    x as u8
-}
-
 // The digit of a number below 16, in lower case.
 fn glyph(d: u32) -> u8
     requires { d < 16 }
     ensures { result ≡ Digits·glyph d }
 {
     if d < 10 {
-        return low_byte(48 + d);
+        (48 + d) as u8
+    } else {
+        (87 + d) as u8
     }
-    low_byte(87 + d)
 }
 
 // A number in so many digits. The last digit is written first, since it is the first that division gives.
@@ -50,9 +44,7 @@ fn put_digits(out: &mut [u8], at: usize, width: usize, n: u32) -> usize
     ensures { (result ≡ at + width) × (out.new ≡ write out.old at (digits width n)) }
 {
     let mut rest = n;
-    let mut left = width;
-    while 0 < left {
-        left -= 1;
+    for left in (0..width).rev() {
         out[at + left] = glyph(rest % 16);
         rest /= 16;
     }
@@ -73,18 +65,15 @@ fn put_word(out: &mut [u8], at: usize, width: usize, n: u32, after: u8) -> usize
 fn has_room(size: usize, at: usize, bytes: usize) -> bool
     ensures { result ≡ leb (at + bytes) size }
 {
-    if size < bytes {
-        return false;
-    }
-    at <= size - bytes
+    bytes <= size && at <= size - bytes
 }
 
-// The first line of a listing, at `at`. Answers where it ends, or `at` if there is no room and nothing was written.
-pub fn put_header(out: &mut [u8], at: usize, h: Header) -> usize
+// The first line of a listing, at `at`. Answers where it ends; if there is no room, nothing is written.
+pub fn put_header(out: &mut [u8], at: usize, h: Header) -> Option<usize>
     ensures { put out.new result ≡ puts out.old at (header_line h) }
 {
     if !has_room(out.len(), at, HEADER_BYTES) {
-        return at;
+        return None;
     }
     let reason = put_word(out, at, 2, h.number, b' ');
     let place = put_word(out, reason, 2, h.reason, b' ');
@@ -92,17 +81,14 @@ pub fn put_header(out: &mut [u8], at: usize, h: Header) -> usize
     let steps = put_word(out, tokens, 8, h.tokens, b' ');
     let nodes = put_word(out, steps, 8, h.steps, b' ');
     let keys = put_word(out, nodes, 8, h.nodes, b' ');
-    put_word(out, keys, 8, h.keys, b'\n')
+    Some(put_word(out, keys, 8, h.keys, b'\n'))
 }
 
 // A cell of a table, and 0 behind its end.
 fn cell(table: &[u32], i: usize) -> u32
     ensures { result ≡ get_or table.now i 0 }
 {
-    if i < table.len() {
-        return table[i];
-    }
-    0
+    table.get(i).copied().unwrap_or(0)
 }
 
 // Number j of node i.
@@ -124,29 +110,29 @@ fn put_type(out: &mut [u8], at: usize, nodes: &[u32], i: u32) -> usize
     put_word(out, u, 1, field(nodes, i, 8), b'\n')
 }
 
-// The line of node i, at `at`. Answers where it ends, or `at` if there is no room and nothing was written.
-pub fn put_node(out: &mut [u8], at: usize, nodes: &[u32], i: u32) -> usize
+// The line of node i, at `at`. Answers where it ends; if there is no room, nothing is written.
+pub fn put_node(out: &mut [u8], at: usize, nodes: &[u32], i: u32) -> Option<usize>
     ensures { put out.new result ≡ puts out.old at (node_line nodes.now i) }
 {
     if !has_room(out.len(), at, NODE_BYTES) {
-        return at;
+        return None;
     }
     let number = put_word(out, at, 2, field(nodes, i, 0), b' ');
     let count = put_word(out, number, 8, field(nodes, i, 1), b' ');
     let place = put_word(out, count, 8, field(nodes, i, 2), b' ');
     let size = put_word(out, place, 8, field(nodes, i, 3), b' ');
     let base = put_word(out, size, 8, field(nodes, i, 4), b' ');
-    put_type(out, base, nodes, i)
+    Some(put_type(out, base, nodes, i))
 }
 
-// The line of key i, at `at`. Answers where it ends, or `at` if there is no room and nothing was written.
-pub fn put_key(out: &mut [u8], at: usize, keys: &[u32], i: usize) -> usize
+// The line of key i, at `at`. Answers where it ends; if there is no room, nothing is written.
+pub fn put_key(out: &mut [u8], at: usize, keys: &[u32], i: usize) -> Option<usize>
     ensures { put out.new result ≡ puts out.old at (key_line keys.now i) }
 {
     if !has_room(out.len(), at, KEY_BYTES) {
-        return at;
+        return None;
     }
-    put_word(out, at, 8, cell(keys, i), b'\n')
+    Some(put_word(out, at, 8, cell(keys, i), b'\n'))
 }
 
 // Line k of a listing, at `at`: 0 is the header, then come the nodes, then the keys. Answers as the lines do.
@@ -157,15 +143,15 @@ pub fn put_line(
     nodes: &[u32],
     keys: &[u32],
     k: usize,
-) -> usize
+) -> Option<usize>
     ensures { put out.new result ≡ puts out.old at (line_at h nodes.now keys.now k) }
 {
+    let count = h.nodes as usize;
     if k == 0 {
-        return put_header(out, at, h);
+        put_header(out, at, h)
+    } else if k <= count {
+        put_node(out, at, nodes, (k - 1) as u32)
+    } else {
+        put_key(out, at, keys, k - 1 - count)
     }
-    let count = tables::long(h.nodes);
-    if k <= count {
-        return put_node(out, at, nodes, (k - 1) as u32);
-    }
-    put_key(out, at, keys, k - 1 - count)
 }

@@ -1,20 +1,8 @@
-// What the test programs write to standard output: numbers in hexadecimal, and the numbers of an answer. No contract of the kit says
+// What the test programs write to standard output: numbers in hexadecimal, tables, and the numbers of an answer. No contract of the kit says
 // which bytes a write wrote, so what writes ensures nothing: it is proved not to go wrong, and held to the programs' stored output.
+//
+// std's `print!` isn't used here: besides `libc::write` it would have these programs assume the two functions of C that tell why a write failed.
 #![tactic(auto)]
-
-ghost use Rattle.std.specs.Prelude.{◌≡◌};
-
-pub fn word(x: u32) -> u64
-    ensures { result ≡ x }
-{
-    x as u64
-}
-
-pub fn long(x: usize) -> u64
-    ensures { result ≡ x }
-{
-    x as u64
-}
 
 pub fn space() {
     io::write_all(1, b" ");
@@ -25,18 +13,27 @@ pub fn line() {
 }
 
 // A number of a table or a record, behind a space.
-pub fn cell(x: u32) {
+pub fn cell<T: Into<u64>>(x: T) {
     space();
-    io::print_hex(1, word(x), 1);
+    io::print_hex(1, x.into(), 1);
+}
+
+// A table's name and its numbers, on a line.
+pub fn table<T: Into<u64> + Copy>(name: &[u8], cells: &[T]) {
+    io::write_all(1, name);
+    for x in cells {
+        cell(*x);
+    }
+    line();
 }
 
 fn short_number(x: u32) {
-    io::print_hex(1, word(x), 2);
+    io::print_hex(1, u64::from(x), 2);
     space();
 }
 
 fn size(x: usize) {
-    io::print_hex(1, long(x), 8);
+    io::print_hex(1, x as u64, 8);
     space();
 }
 
@@ -56,6 +53,6 @@ pub fn header(
     size(tokens);
     size(steps);
     size(nodes);
-    io::print_hex(1, long(keys), 8);
+    io::print_hex(1, keys as u64, 8);
     line();
 }

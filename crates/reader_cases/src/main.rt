@@ -7,37 +7,30 @@
 #![tactic(auto)]
 
 use decode::Answer;
-use printing::{line, space, word};
+use printing::{line, table};
+
+// How many cells each table has; of a script, how many entries of each it needs.
+#[derive(Clone, Copy)]
+struct Sizes {
+    tokens: usize,
+    nodes: usize,
+    keys: usize,
+    work: usize,
+}
+
+// Ample: 10 tokens and a cell, 8 nodes and two cells, 3 keys, 12 work entries.
+const AMPLE: Sizes = Sizes {
+    tokens: 31,
+    nodes: 74,
+    keys: 3,
+    work: 12,
+};
 
 // The seven numbers of an answer.
 fn header(a: Answer) {
     printing::header(
         a.number, a.reason, a.place, a.tokens, a.steps, a.nodes, a.keys,
     );
-}
-
-// Every cell of a table.
-fn show(name: &[u8], table: &[u32]) {
-    io::write_all(1, name);
-    let mut i = 0;
-    while i < table.len() {
-        space();
-        io::print_hex(1, word(table[i]), 1);
-        i += 1;
-    }
-    line();
-}
-
-// Every cell of a work table.
-fn show_work(work: &[u64]) {
-    io::write_all(1, b"w");
-    let mut i = 0;
-    while i < work.len() {
-        space();
-        io::print_hex(1, work[i], 1);
-        i += 1;
-    }
-    line();
 }
 
 fn read_and_show(
@@ -50,43 +43,34 @@ fn read_and_show(
 ) {
     let a = decode::read(kind, script, tokens, nodes, keys, work);
     header(a);
-    show(b"t", tokens);
-    show(b"n", nodes);
-    show(b"k", keys);
-    show_work(work);
+    table(b"t", tokens);
+    table(b"n", nodes);
+    table(b"k", keys);
+    table(b"w", work);
 }
 
 // A script, with tables of so many cells, all of them full of junk.
-fn with_tables(kind: u32, script: &[u8], tokens: usize, nodes: usize, keys: usize, work: usize) {
-    let mut token_table = [0xdeadbeefu32; 31];
-    let mut node_table = [0xdeadbeefu32; 74];
-    let mut key_table = [0xdeadbeefu32; 3];
-    let mut work_table = [0xdeadbeefdeadbeefu64; 12];
-    if 31 < tokens {
-        return;
-    }
-    if 74 < nodes {
-        return;
-    }
-    if 3 < keys {
-        return;
-    }
-    if 12 < work {
+fn with_tables(kind: u32, script: &[u8], cells: Sizes) {
+    let mut tokens = [0xdeadbeefu32; 31];
+    let mut nodes = [0xdeadbeefu32; 74];
+    let mut keys = [0xdeadbeefu32; 3];
+    let mut work = [0xdeadbeefdeadbeefu64; 12];
+    if 31 < cells.tokens || 74 < cells.nodes || 3 < cells.keys || 12 < cells.work {
         return;
     }
     read_and_show(
         kind,
         script,
-        &mut token_table[..tokens],
-        &mut node_table[..nodes],
-        &mut key_table[..keys],
-        &mut work_table[..work],
+        &mut tokens[..cells.tokens],
+        &mut nodes[..cells.nodes],
+        &mut keys[..cells.keys],
+        &mut work[..cells.work],
     );
 }
 
 // A script of these bytes and so many times aa behind them, with tables of so many cells.
-fn run(kind: u32, hex: &[u8], more: usize, tokens: usize, nodes: usize, keys: usize, work: usize) {
-    io::print_hex(1, word(kind), 2);
+fn run(kind: u32, hex: &[u8], more: usize, cells: Sizes) {
+    io::print_hex(1, u64::from(kind), 2);
     io::write_all(1, hex);
     line();
     let mut script = [0xaau8; 10001];
@@ -94,114 +78,109 @@ fn run(kind: u32, hex: &[u8], more: usize, tokens: usize, nodes: usize, keys: us
     if script.len() - n < more {
         return;
     }
-    with_tables(kind, &script[..n + more], tokens, nodes, keys, work);
+    with_tables(kind, &script[..n + more], cells);
 }
 
-// Ample: 10 tokens and a cell, 8 nodes and two cells, 3 keys, 12 work entries. Then each table one entry short of what the
-// script needs, of which the last token and the last node lack one cell only.
-fn ample_and_short(
-    kind: u32,
-    hex: &[u8],
-    more: usize,
-    tokens: usize,
-    nodes: usize,
-    keys: usize,
-    work: usize,
-) {
-    run(kind, hex, more, 31, 74, 3, 12);
-    if 10 < tokens {
+// Ample tables. Then each table one entry short of what the script needs, of which the last token and the last node lack one
+// cell only.
+fn ample_and_short(kind: u32, hex: &[u8], more: usize, needs: Sizes) {
+    run(kind, hex, more, AMPLE);
+    if 10 < needs.tokens || 8 < needs.nodes {
         return;
     }
-    if 8 < nodes {
-        return;
+    if 0 < needs.tokens {
+        let tokens = 3 * needs.tokens - 1;
+        run(kind, hex, more, Sizes { tokens, ..AMPLE });
     }
-    if 0 < tokens {
-        run(kind, hex, more, 3 * tokens - 1, 74, 3, 12);
+    if 0 < needs.nodes {
+        let nodes = 9 * needs.nodes - 1;
+        run(kind, hex, more, Sizes { nodes, ..AMPLE });
     }
-    if 0 < nodes {
-        run(kind, hex, more, 31, 9 * nodes - 1, 3, 12);
+    if 0 < needs.keys {
+        let keys = needs.keys - 1;
+        run(kind, hex, more, Sizes { keys, ..AMPLE });
     }
-    if 0 < keys {
-        run(kind, hex, more, 31, 74, keys - 1, 12);
-    }
-    if 0 < work {
-        run(kind, hex, more, 31, 74, 3, work - 1);
+    if 0 < needs.work {
+        let work = needs.work - 1;
+        run(kind, hex, more, Sizes { work, ..AMPLE });
     }
 }
 
-// The twelve before the bar. They are called a few at a time, since a long list of calls takes long to check.
+// A script that needs no key.
+fn keyless(kind: u32, hex: &str, more: usize, tokens: usize, nodes: usize, work: usize) {
+    let needs = Sizes {
+        tokens,
+        nodes,
+        keys: 0,
+        work,
+    };
+    ample_and_short(kind, hex.as_bytes(), more, needs);
+}
+
+// The twelve before the bar: the tokens, nodes and work entries that each needs.
 fn proved_together() {
-    first_four();
-    next_four();
-    last_four();
-}
-
-fn first_four() {
-    ample_and_short(0, b"", 0, 0, 0, 0, 2);
-    ample_and_short(0, b"51", 0, 1, 1, 0, 2);
-    ample_and_short(0, b"516951", 0, 3, 4, 0, 3);
-    ample_and_short(0, b"5169516951", 0, 5, 7, 0, 4);
-}
-
-fn next_four() {
-    ample_and_short(0, b"6351670068", 0, 5, 3, 0, 4);
-    ample_and_short(0, b"517c519b", 0, 4, 1, 0, 6);
-    ample_and_short(0, b"005187", 0, 3, 2, 0, 3);
-    ample_and_short(0, b"005287", 0, 3, 1, 0, 3);
-}
-
-fn last_four() {
-    ample_and_short(0, b"6351", 0, 2, 1, 0, 2);
-    ample_and_short(0, b"8769", 0, 1, 0, 0, 0);
-    ample_and_short(0, b"00b2", 0, 2, 0, 0, 2);
-    ample_and_short(0, b"7663516968", 0, 5, 3, 0, 5);
+    for (hex, tokens, nodes, work) in [
+        ("", 0, 0, 2),
+        ("51", 1, 1, 2),
+        ("516951", 3, 4, 3),
+        ("5169516951", 5, 7, 4),
+        ("6351670068", 5, 3, 4),
+        ("517c519b", 4, 1, 6),
+        ("005187", 3, 2, 3),
+        ("005287", 3, 1, 3),
+        ("6351", 2, 1, 2),
+        ("8769", 1, 0, 0),
+        ("00b2", 2, 0, 2),
+        ("7663516968", 5, 3, 5),
+    ] {
+        keyless(0, hex, 0, tokens, nodes, work);
+    }
 }
 
 // Those behind it.
 fn run_only() {
-    numbers_run();
-    others_run();
-}
-
-fn numbers_run() {
-    ample_and_short(0, b"51b2", 0, 2, 1, 0, 2);
-    ample_and_short(0, b"0105", 0, 0, 0, 0, 0);
-    ample_and_short(0, b"0111", 0, 1, 0, 0, 2);
-    ample_and_short(0, b"0180", 0, 0, 0, 0, 0);
-    ample_and_short(0, b"0191", 0, 0, 0, 0, 0);
-}
-
-fn others_run() {
-    ample_and_short(0, b"027f00", 0, 0, 0, 0, 0);
-    ample_and_short(0, b"4c", 0, 0, 0, 0, 0);
-    ample_and_short(0, b"4f", 0, 0, 0, 0, 0);
-    ample_and_short(0, b"88", 0, 2, 0, 0, 2);
-    ample_and_short(0, b"", 10001, 0, 0, 0, 0);
+    for (hex, more, tokens, nodes, work) in [
+        ("51b2", 0, 2, 1, 2),
+        ("0105", 0, 0, 0, 0),
+        ("0111", 0, 1, 0, 2),
+        ("0180", 0, 0, 0, 0),
+        ("0191", 0, 0, 0, 0),
+        ("027f00", 0, 0, 0, 0),
+        ("4c", 0, 0, 0, 0),
+        ("4f", 0, 0, 0, 0),
+        ("88", 0, 2, 0, 2),
+        ("", 10001, 0, 0, 0),
+    ] {
+        keyless(0, hex, more, tokens, nodes, work);
+    }
 }
 
 // Keys in either kind, a kind that there is none of, and an or_d over d:, which is no unit in either kind.
 fn keys_and_kinds() {
+    let two_keys = Sizes {
+        tokens: 5,
+        nodes: 1,
+        keys: 2,
+        work: 2,
+    };
     ample_and_short(
         0,
         b"51210211111111111111111111111111111111111111111111111111111111111111112103222222222222222222222222222222222222222222222222222222222222222252ae",
         0,
-        5,
-        1,
-        2,
-        2,
+        two_keys,
     );
     ample_and_short(
         1,
         b"201111111111111111111111111111111111111111111111111111111111111111ac202222222222222222222222222222222222222222222222222222222222222222ba529c",
         0,
-        6,
-        1,
-        2,
-        2,
+        Sizes {
+            tokens: 6,
+            ..two_keys
+        },
     );
-    ample_and_short(2, b"51", 0, 0, 0, 0, 0);
-    ample_and_short(0, b"766351696873645168", 0, 9, 4, 0, 6);
-    ample_and_short(1, b"766351696873645168", 0, 9, 4, 0, 6);
+    keyless(2, "51", 0, 0, 0, 0);
+    keyless(0, "766351696873645168", 0, 9, 4, 6);
+    keyless(1, "766351696873645168", 0, 9, 4, 6);
 }
 
 fn main() {

@@ -4,6 +4,3 @@ use Rattle.listing.proofs.put_digits.Given as goal
 
 abbrev pub invariant-loop-left : goal.invariant-loop-left
 invariant-loop-left l = Writing l.initial.out l.at l.width l.n l.out l.rest l.left
-
-abbrev pub decreases-loop-left : goal.decreases-loop-left
-decreases-loop-left l = l.left
