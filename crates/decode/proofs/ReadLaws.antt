@@ -15,7 +15,7 @@ use Rattle.tables.proofs.PutLaws.{zeros_cell}
 use Rattle.instruction.specs.Code.{Bytes}
 use Rattle.std.specs.Prelude.{Ok, Err}
 use Rattle.lex.specs.Token.{Token, Lexeme, lexeme}
-use Rattle.lex.specs.Script.{script_limit, lex_of, answer_of, numbers, table_of, Lexes}
+use Rattle.lex.specs.Script.{refusal, script_limit, lex_of, answer_of, numbers, table_of, Lexes}
 use Rattle.lex.specs.Script as lex
 use Rattle.lex.proofs.ScanLaws.{limit_passed}
 use Rattle.lex.proofs.Theorems.{tokens_at_most_twice, cells_low, answered_tokens, answered_refused}

@@ -3,7 +3,6 @@
 
 ghost use Rattle.std.specs.Prelude.{◌≡◌, ◌*◌, ◌/◌, ◌≤◌, length};
 ghost use Rattle.tables.specs.Tables.{zeros};
-ghost use Rattle.lex.specs.declared.Answer.TheVariants as lexing;
 ghost use Rattle.lex.specs.Script.{lex_of, Lexes};
 ghost use Rattle.standard.specs.Outcome.{lexed, outcome_of};
 ghost use Rattle.perform.specs.View.{Behind};
@@ -69,7 +68,7 @@ fn decoded(
     keys: &mut [u32],
     work: &mut [u64],
 ) -> Answer
-    requires lexes { Lexes script.now (length tokens.old) (lexing.Tokens count) tokens.old }
+    requires lexes { Lexes script.now (length tokens.old) (Ok count) tokens.old }
     requires nodes_value { (nodes.old ≡ zeros (length nodes.old)) × (keys.old ≡ zeros (length keys.old)) }
     ensures { outcome_at result tokens.new nodes.new keys.new work.new ≡ lexed segwit (lengths_of tokens.old nodes.old keys.old work.old) script.now (lex_of (length tokens.old / 3) script.now) }
 {
@@ -115,12 +114,11 @@ pub fn read(
         work.fill(0);
         return refused(20, 0, 0, 0, 0);
     }
-    let lexed = lex::lex(script, tokens);
-    match lexed {
-        lex::Answer::Tokens(count) => decoded(kind == 0, script, tokens, count, nodes, keys, work),
-        lex::Answer::Refused { number, place } => {
+    match lex::lex(script, tokens) {
+        Ok(count) => decoded(kind == 0, script, tokens, count, nodes, keys, work),
+        Err(error) => {
             work.fill(0);
-            refused(number, 0, place, 0, 0)
+            refused(error.number, 0, error.place, 0, 0)
         }
     }
 }

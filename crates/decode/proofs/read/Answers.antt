@@ -6,8 +6,8 @@ use mathlib.Core.Path.{refl}
 pub returns-then-kind-gt1 : goal.returns-then-kind-gt1
 returns-then-kind-gt1 c = unknown_kind c.args.kind c.args.script.now c.args.tokens.now c.args.nodes.now c.args.keys.now c.args.work.now c.if-kind-gt1.true c.refused.result _ _ _ _ c.refused.ensures (c.fill-then-kind-gt1.ensures.after (λ y e. e)) (c.fill.ensures.after (λ y e. e)) (c.fill-2.ensures.after (λ y e. e)) (c.fill-then-kind-gt1-2.ensures.after (λ y e. e))
 
-pub returns-in-Tokens : goal.returns-in-Tokens
-returns-in-Tokens c = read_on_lem c.args.kind c.args.script.now c.args.tokens.now c.args.nodes.now c.args.keys.now c.args.work.now c.if-kind-gt1.false _ c.lex-lexed.new.t c.fill.new.self c.fill-2.new.self c.args.work.now c.lex-lexed.auto.t c.fill.auto.self c.fill-2.auto.self refl c.decoded.ensures
+pub returns-in-Ok : goal.returns-in-Ok
+returns-in-Ok c = read_on_lem c.args.kind c.args.script.now c.args.tokens.now c.args.nodes.now c.args.keys.now c.args.work.now c.if-kind-gt1.false _ c.lex.new.t c.fill.new.self c.fill-2.new.self c.args.work.now c.lex.auto.t c.fill.auto.self c.fill-2.auto.self refl c.decoded.ensures
 
-pub returns-in-Refused : goal.returns-in-Refused
-returns-in-Refused c = not_lexed c.args.kind c.args.script.now c.args.tokens.now c.args.nodes.now c.args.keys.now c.args.work.now c.if-kind-gt1.false _ _ c.refused-in-Refused.result _ _ _ _ (lexes_not c.args.script.now c.args.tokens.now c.lex-lexed.new.t _ _ c.lex-lexed.ensures c.in-Refused.is) c.refused-in-Refused.ensures (c.fill.ensures.after (λ y e. e)) (c.fill-2.ensures.after (λ y e. e)) (c.fill-in-Refused.ensures.after (λ y e. e))
+pub returns-in-Err : goal.returns-in-Err
+returns-in-Err c = not_lexed c.args.kind c.args.script.now c.args.tokens.now c.args.nodes.now c.args.keys.now c.args.work.now c.if-kind-gt1.false _ _ c.refused-in-Err.result _ _ _ _ (lexes_not c.args.script.now c.args.tokens.now c.lex.new.t _ _ c.lex.ensures c.in-Err.is) c.refused-in-Err.ensures (c.fill.ensures.after (λ y e. e)) (c.fill-2.ensures.after (λ y e. e)) (c.fill-in-Err.ensures.after (λ y e. e))
