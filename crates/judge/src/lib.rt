@@ -15,7 +15,7 @@ use correctness::{Base, Correctness, Input, Leaf, Typed};
 
 // A node before it is put into the table: 01's nine numbers. Laid out as in C, for callers who lend a table of such records.
 #[repr(C)]
-#[derive(Clone, Copy)]
+#[derive(Clone, Copy, Default)]
 pub struct Node {
     pub kind: u32,
     pub number: u32,

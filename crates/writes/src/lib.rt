@@ -12,6 +12,7 @@ ghost use Rattle.node_store.specs.Offsets.{Low};
 ghost use Rattle.writes.specs.Written.{stop_of, stop_of_row, earlier_of, Enters, Stores, Finishes, Verified, Leaves, Keyed};
 
 use judge::Node;
+use node_store::KeyTokens;
 use row::{NonTerm, Refused};
 
 // How many tokens are left, and how many entries, nodes and keys the tables hold.
@@ -167,7 +168,7 @@ pub fn leaf(
     store(nodes, s, x)
 }
 
-// A leaf with n keys: 16 if they don't all fit, then 15.
+// A leaf with keys: 16 if they don't all fit, then 15.
 #[tactic(auto, using(node_store::proofs::KeyLaws::offsets_length))]
 fn with_keys(
     tokens: &[u32],
@@ -175,17 +176,16 @@ fn with_keys(
     keys: &mut [u32],
     s: State,
     x: Node,
-    n: usize,
-    first: usize,
-    stride: usize,
+    pushed: KeyTokens,
 ) -> Result<State, Stop>
     requires { (s.keys ≤ length keys.old) × (s.nodes + 1 < 4294967296) × Low tokens.now }
-    ensures { Keyed nodes.old nodes.new keys.old keys.new s (node_of x) (offsets_from tokens.now n first stride) result }
+    ensures { Keyed nodes.old nodes.new keys.old keys.new s (node_of x) (offsets_from tokens.now pushed.n pushed.first pushed.stride) result }
 {
+    let n = pushed.n as usize;
     keys_room(keys, s, n)?;
     node_room(nodes, s)?;
     node_store::put(nodes, s.nodes, x);
-    node_store::copy_keys(tokens, keys, s.keys, n, first, stride);
+    node_store::copy_keys(tokens, keys, s.keys, pushed);
     Ok(State {
         nodes: s.nodes + 1,
         keys: s.keys + n,
@@ -201,13 +201,11 @@ pub fn multi(
     s: State,
     kind: u32,
     k: u32,
-    n: u32,
-    first: usize,
-    stride: usize,
+    pushed: KeyTokens,
 ) -> Result<State, Stop>
     requires { (s.keys ≤ length keys.old) × (s.keys < 2147483648) × (s.nodes + 1 < 4294967296) × Low tokens.now }
-    ensures { Keyed nodes.old nodes.new keys.old keys.new s (new_leaf kind k n s.keys) (offsets_from tokens.now n first stride) result }
+    ensures { Keyed nodes.old nodes.new keys.old keys.new s (new_leaf kind k pushed.n s.keys) (offsets_from tokens.now pushed.n pushed.first pushed.stride) result }
 {
-    let x = judge::leaf(kind, k, n, s.keys as u32);
-    with_keys(tokens, nodes, keys, s, x, n as usize, first, stride)
+    let x = judge::leaf(kind, k, pushed.n, s.keys as u32);
+    with_keys(tokens, nodes, keys, s, x, pushed)
 }
