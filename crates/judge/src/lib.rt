@@ -1,6 +1,7 @@
 // The judging part of a step of decode.rs: the node that a reduction makes of its children, or the reason of 14. The
 // children are the newest finished subtrees of the node table, found by `size`; types are read from their fields, judged
-// by the rule of the new node's kind, and the node is returned by value. Nothing is written here.
+// by the rule of the new node's kind, and the node is returned by value. Nothing is written here. Kinds are numbers, as
+// document 01 has them, and the table is flat: callers in C lend it.
 #![tactic(auto)]
 
 ghost use Rattle.std.specs.Prelude.{◌≡◌, ◌+◌, ◌*◌, ◌<◌, length};
@@ -14,7 +15,7 @@ use correctness::{Base, Correctness, ErrorKind, Input, Leaf};
 
 // A node before it is put into the table: 01's nine numbers. Laid out as in C, for callers who lend a table of such records.
 #[repr(C)]
-#[derive(Clone, Copy)]
+#[derive(Clone, Copy, Default)]
 pub struct Node {
     pub kind: u32,
     pub number: u32,
@@ -54,8 +55,7 @@ pub fn leaf_of(kind: u32) -> Leaf
         2 => Leaf::False,
         3 => Leaf::PkK,
         5 => Leaf::RawPkH,
-        6 => Leaf::Time,
-        7 => Leaf::Time,
+        6 | 7 => Leaf::Time,
         27 => Leaf::Multi,
         28 => Leaf::MultiA,
         _ => Leaf::Hash,

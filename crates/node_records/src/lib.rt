@@ -11,17 +11,7 @@ use judge::Node;
 pub fn zero_record() -> Node
     ensures { result ≡ zero_record }
 {
-    Node {
-        kind: 0,
-        number: 0,
-        count: 0,
-        place: 0,
-        size: 0,
-        base: 0,
-        input: 0,
-        d: 0,
-        u: 0,
-    }
+    Node::default()
 }
 
 // A record is stored.

@@ -7,6 +7,7 @@ ghost use Rattle.node_store.specs.Offsets.{Low};
 ghost use Rattle.lists.specs.Ready.{Ready};
 ghost use Rattle.perform.specs.View.{Inside, Performs};
 
+use node_store::KeyTokens;
 use row::Row;
 use writes::{State, Stop};
 
@@ -42,7 +43,10 @@ pub fn perform(
             n,
             first,
             stride,
-        } => writes::multi(tokens, nodes, keys, s, kind, k, n, first, stride),
+        } => {
+            let pushed = KeyTokens { n, first, stride };
+            writes::multi(tokens, nodes, keys, s, kind, k, pushed)
+        }
         Row::Reduce1(kind) => {
             let made = judge::reduce1(nodes, m, kind);
             writes::finish(nodes, s, made)

@@ -1,5 +1,6 @@
 // The work list of decode.rs over a lent table: one 64-bit number for each entry, the newest at the end of those in use. A
-// pop writes nothing, since what lies above the newest entry is never read.
+// pop writes nothing, since what lies above the newest entry is never read. Entries are numbers because callers in C lend the
+// table.
 #![tactic(auto)]
 
 ghost use Rattle.std.specs.Prelude.{◌≡◌, map, ◌+◌, ◌-◌, ◌*◌, ◌/◌, ◌≤◌, ◌<◌, length, get_or};

@@ -12,6 +12,7 @@ ghost use Rattle.node_store.specs.Offsets.{Low};
 ghost use Rattle.writes.specs.Written.{stop_of, stop_of_row, earlier_of, Enters, Stores, Finishes, Verified, Leaves, Keyed};
 
 use judge::Node;
+use node_store::KeyTokens;
 use row::{NonTerm, Refused};
 
 // How many tokens are left, and how many entries, nodes and keys the tables hold.
@@ -76,24 +77,13 @@ fn node_room(nodes: &[u32], s: State) -> Result<(), Stop>
     Ok(())
 }
 
-// 16 if there is no room for n keys more.
-fn keys_room(keys: &[u32], s: State, n: usize) -> Result<(), Stop>
-    requires { s.keys ≤ length keys.now }
-    ensures { MatchResult result (λ _. s.keys + n ≤ length keys.now) (λ e. (length keys.now < s.keys + n) × (e ≡ stop_of s 16 0)) }
+// This refusal if there is no room in a table for so many more behind those in use.
+fn room<T>(table: &[T], used: usize, more: usize, refusal: Stop) -> Result<(), Stop>
+    requires { used ≤ length table.now }
+    ensures { MatchResult result (λ _. used + more ≤ length table.now) (λ e. (length table.now < used + more) × (e ≡ refusal)) }
 {
-    if keys.len() - s.keys < n {
-        return Err(s.stop(16, 0));
-    }
-    Ok(())
-}
-
-// 17 if there is no room for so many entries more.
-fn work_room(work: &[u64], s: State, more: usize) -> Result<(), Stop>
-    requires { s.work ≤ length work.now }
-    ensures { MatchResult result (λ _. s.work + more ≤ length work.now) (λ e. (length work.now < s.work + more) × (e ≡ stop_of s 17 0)) }
-{
-    if work.len() - s.work < more {
-        return Err(s.stop(17, 0));
+    if table.len() - used < more {
+        return Err(refusal);
     }
     Ok(())
 }
@@ -104,7 +94,7 @@ pub fn enter(work: &mut [u64], s: State, entries: &[NonTerm]) -> Result<State, S
     ensures { Enters work.old work.new s (map packed entries.now) result }
 {
     let more = entries.len();
-    work_room(work, s, more)?;
+    room(work, s.work, more, s.stop(17, 0))?;
     work_list::enter(work, s.work, entries);
     Ok(State {
         work: s.work + more,
@@ -140,7 +130,7 @@ fn verified(nodes: &mut [u32], work: &mut [u64], s: State, x: Node) -> Result<St
     ensures { Verified nodes.old nodes.new work.old work.new s (node_of x) (packed non-term.Verify ∷ []) result }
 {
     node_room(nodes, s)?;
-    work_room(work, s, 1)?;
+    room(work, s.work, 1, s.stop(17, 0))?;
     node_store::put(nodes, s.nodes, x);
     work_list::enter(work, s.work, &[NonTerm::Verify]);
     Ok(State {
@@ -167,7 +157,7 @@ pub fn leaf(
     store(nodes, s, x)
 }
 
-// A leaf with n keys: 16 if they don't all fit, then 15.
+// A leaf with keys: 16 if they don't all fit, then 15.
 #[tactic(auto, using(node_store::proofs::KeyLaws::offsets_length))]
 fn with_keys(
     tokens: &[u32],
@@ -175,17 +165,16 @@ fn with_keys(
     keys: &mut [u32],
     s: State,
     x: Node,
-    n: usize,
-    first: usize,
-    stride: usize,
+    pushed: KeyTokens,
 ) -> Result<State, Stop>
     requires { (s.keys ≤ length keys.old) × (s.nodes + 1 < 4294967296) × Low tokens.now }
-    ensures { Keyed nodes.old nodes.new keys.old keys.new s (node_of x) (offsets_from tokens.now n first stride) result }
+    ensures { Keyed nodes.old nodes.new keys.old keys.new s (node_of x) (offsets_from tokens.now pushed.n pushed.first pushed.stride) result }
 {
-    keys_room(keys, s, n)?;
+    let n = pushed.n as usize;
+    room(keys, s.keys, n, s.stop(16, 0))?;
     node_room(nodes, s)?;
     node_store::put(nodes, s.nodes, x);
-    node_store::copy_keys(tokens, keys, s.keys, n, first, stride);
+    node_store::copy_keys(tokens, keys, s.keys, pushed);
     Ok(State {
         nodes: s.nodes + 1,
         keys: s.keys + n,
@@ -201,13 +190,11 @@ pub fn multi(
     s: State,
     kind: u32,
     k: u32,
-    n: u32,
-    first: usize,
-    stride: usize,
+    pushed: KeyTokens,
 ) -> Result<State, Stop>
     requires { (s.keys ≤ length keys.old) × (s.keys < 2147483648) × (s.nodes + 1 < 4294967296) × Low tokens.now }
-    ensures { Keyed nodes.old nodes.new keys.old keys.new s (new_leaf kind k n s.keys) (offsets_from tokens.now n first stride) result }
+    ensures { Keyed nodes.old nodes.new keys.old keys.new s (new_leaf kind k pushed.n s.keys) (offsets_from tokens.now pushed.n pushed.first pushed.stride) result }
 {
-    let x = judge::leaf(kind, k, n, s.keys as u32);
-    with_keys(tokens, nodes, keys, s, x, n as usize, first, stride)
+    let x = judge::leaf(kind, k, pushed.n, s.keys as u32);
+    with_keys(tokens, nodes, keys, s, x, pushed)
 }
