@@ -17,18 +17,19 @@ use Rattle.standard.specs.Written.{written}
 use Rattle.encoding.specs.Checks.{Found, found, refused}
 use Rattle.encoding.specs.Encoding as encoding
 use Rattle.encoding.specs.Encoding.{Outcome, refusing, writing, written_within, node_count, tree_in, encoded, encoding_of}
-use Rattle.closing.specs.declared.Verdict.{Verdict}
-use Rattle.closing.specs.Verdicts.{verdict_on}
+use Rattle.closing.specs.Verdicts.{Verdict, verdict_on}
+use Rattle.closing.proofs.CheckLaws.{refusal_numbered}
 use Rattle.script_length.specs.Length.{capped, length_in}
 use Rattle.script_length.proofs.LengthTheorem.{length_of_tree}
 use Rattle.script_length.proofs.CappedLaws.{told_within, told_above}
 use Rattle.there_and_back.specs.Numbers.{FoundNumbered, tree_numbered}
 use Rattle.there_and_back.specs.ThereAndBack.{Written, accepted_is_written}
-use Rattle.writes.specs.Written.{earlier_of}
 use Rattle.write_script.specs.Writing.{bytes_of, IsFound, Writable}
 use Rattle.encode.specs.declared.Encoded.{Encoded}
 use Rattle.encode.specs.Encode.{answer, answer_of, outcome_at}
-use Rattle.encode.specs.Decided.{told, room_refusal, Decides}
+use Rattle.encode.specs.declared.Refusal.{Refusal}
+use Rattle.encode.specs.declared.Refusal.TheVariants.{ScriptKind, Unsound, TooLong, NoWork, NoRoom}
+use Rattle.encode.specs.Decided.{refusal_answer, room_refusal, Answers}
 
 -- Decided
 
@@ -44,11 +45,11 @@ verdict_found (refused number reason) v s e z = let q : number ≡ 0 = sym (ap (
 
 -- the tests of length and room, by the told length
 module _ (nodes work : ℕ) (output bytes : List ℕ) (length-told : ℕ) (e : length-told ≡ capped (length bytes)) where
-  abbrev number : ℕ
-  number = room_refusal nodes length-told work (length output)
+  abbrev number_told : ℕ
+  number_told = room_refusal nodes length-told work (length output)
 
   abbrev Told : encoding.Answer → Type 0
-  Told a = ((number ≡ 0 → ⊥) → answer number 0 0 ≡ a) × (number ≡ 0 → answer 0 0 length-told ≡ a)
+  Told a = ((number_told ≡ 0 → ⊥) → answer number_told 0 0 ≡ a) × (number_told ≡ 0 → answer 0 0 length-told ≡ a)
 
   by_room : leb (length bytes) script_limit ≡ true → ltb 10000 length-told ≡ false → length-told ≡ length bytes → (x y : Bool) → ltb work (8 * nodes + 2) ≡ x → ltb (length output) length-told ≡ y → Told (written_within nodes work output bytes).answer
   by_room l s q true y p r =
@@ -71,39 +72,44 @@ module _ (nodes work : ℕ) (output bytes : List ℕ) (length-told : ℕ) (e : l
       let l = told_within (length bytes) e (ltb-false 10000 length-told p) in
       by_room l.0 p l.1 (ltb work (8 * nodes + 2)) (ltb (length output) length-told) refl refl
 
-  room_told : Told (written_within nodes work output bytes).answer
-  room_told = by_length (ltb 10000 length-told) refl
-
--- the earliest of three refusals
-pub room_refused : (nodes bytes work out : ℕ) (long busy full later r : ℕ) → long ≡ told (ltb 10000 bytes) 1 → busy ≡ told (ltb work (8 * nodes + 2)) 17 → full ≡ told (ltb out bytes) 22
-    → later ≡ earlier_of busy full → r ≡ earlier_of long later → r ≡ room_refusal nodes bytes work out
-room_refused nodes bytes work out long busy full later r a b c d e =
-    e
-    ∙ ap (λ (x : ℕ). earlier_of x later) a
-    ∙ ap (earlier_of (told (ltb 10000 bytes) 1)) (d ∙ ap (λ (x : ℕ). earlier_of x full) b ∙ ap (earlier_of (told (ltb work (8 * nodes + 2)) 17)) c)
+  room_told_lem : Told (written_within nodes work output bytes).answer
+  room_told_lem = by_length (ltb 10000 length-told) refl
 
 -- as the code goes
-module _ (segwit : Bool) (nodes keys material : List ℕ) (work out : ℕ) (v : Verdict) (verdict-is : v ≡ verdict_on (tree_in segwit nodes keys material)) where
-  pub refused_by_checks : (v.number ≡ 0 → ⊥) → (r : Encoded) → answer_of r ≡ answer v.number v.reason 0 → Decides segwit nodes keys material work out r
-  refused_by_checks some r a output l = a ∙ verdict_decided (node_count nodes) work output (tree_in segwit nodes keys material) v verdict-is some
+module _ (kind : ℕ) (nodes keys material : List ℕ) (work out : ℕ) where
+  pub unknown_kind : 1 < kind → Answers kind nodes keys material work out (answer 20 0 0)
+  unfolding encoding_of
+  unknown_kind h output l = rw (lt-leb kind 1 h) refl
 
-  module _ (checked : v.number ≡ 0) (bytes number : ℕ) (bytes-are : bytes ≡ length_in segwit nodes) (number_is : number ≡ room_refusal (length nodes / 9) bytes work out) where
-    is_found : (t : Tree) × (tree_in segwit nodes keys material ≡ found t)
-    is_found = verdict_found (tree_in segwit nodes keys material) v (tree_numbered segwit material keys nodes) verdict-is checked
+  module _ (known : kind ≤ 1) (v : Verdict) (verdict-is : v ≡ verdict_on (tree_in (eqb kind 0) nodes keys material)) where
+    known_outcome : (output : List ℕ) → encoded (node_count nodes) work output (tree_in (eqb kind 0) nodes keys material) ≡ encoding_of kind nodes keys material work output
+    unfolding encoding_of
+    known_outcome output = rw (le-leb kind 1 known) refl
 
-    told_of : (output : List ℕ) → length output ≡ out
-        → ((number ≡ 0 → ⊥) → answer number 0 0 ≡ (encoded (node_count nodes) work output (tree_in segwit nodes keys material)).answer)
-        × (number ≡ 0 → answer 0 0 bytes ≡ (encoded (node_count nodes) work output (tree_in segwit nodes keys material)).answer)
-    told_of output l =
-        let f = is_found in
-        let e : bytes ≡ capped (length (spell (written f.0))) = bytes-are ∙ length_of_tree segwit material keys nodes f.0 f.1 in
-        rw (number_is, ← l, f.1) (room_told (node_count nodes) work output (spell (written f.0)) bytes e)
+    pub refused_by_checks : (v.number ≡ 0 → ⊥) → Answers kind nodes keys material work out (answer v.number v.reason 0)
+    refused_by_checks some output l =
+        verdict_decided (node_count nodes) work output (tree_in (eqb kind 0) nodes keys material) v verdict-is some ∙ ap (λ (o : Outcome). o.answer) (known_outcome output)
 
-    pub refused_by_room : (number ≡ 0 → ⊥) → (r : Encoded) → answer_of r ≡ answer number 0 0 → Decides segwit nodes keys material work out r
-    refused_by_room some r a output l = a ∙ (told_of output l).0 some
+    module _ (checked : v.number ≡ 0) (bytes : ℕ) (bytes-are : bytes ≡ length_in (eqb kind 0) nodes) where
+      abbrev room : ℕ
+      room = room_refusal (length nodes / 9) bytes work out
 
-    pub accepted : number ≡ 0 → (r : Encoded) → answer_of r ≡ answer 0 0 bytes → Decides segwit nodes keys material work out r
-    accepted z r a output l = a ∙ (told_of output l).1 z
+      is_found : (t : Tree) × (tree_in (eqb kind 0) nodes keys material ≡ found t)
+      is_found = verdict_found (tree_in (eqb kind 0) nodes keys material) v (tree_numbered (eqb kind 0) material keys nodes) verdict-is checked
+
+      told_of : (output : List ℕ) → length output ≡ out
+          → ((room ≡ 0 → ⊥) → answer room 0 0 ≡ (encoded (node_count nodes) work output (tree_in (eqb kind 0) nodes keys material)).answer)
+          × (room ≡ 0 → answer 0 0 bytes ≡ (encoded (node_count nodes) work output (tree_in (eqb kind 0) nodes keys material)).answer)
+      told_of output l =
+          let f = is_found in
+          let e : bytes ≡ capped (length (spell (written f.0))) = bytes-are ∙ length_of_tree (eqb kind 0) material keys nodes f.0 f.1 in
+          rw (← l, f.1) (room_told_lem (node_count nodes) work output (spell (written f.0)) bytes e)
+
+      pub refused_by_room : (room ≡ 0 → ⊥) → Answers kind nodes keys material work out (answer room 0 0)
+      refused_by_room some output l = (told_of output l).0 some ∙ ap (λ (o : Outcome). o.answer) (known_outcome output)
+
+      pub accepted : room ≡ 0 → Answers kind nodes keys material work out (answer 0 0 bytes)
+      accepted z output l = (told_of output l).1 z ∙ ap (λ (o : Outcome). o.answer) (known_outcome output)
 
 -- The whole outcome
 
@@ -132,28 +138,25 @@ module _ (kind : ℕ) (nodes keys material work output : List ℕ) where
   abbrev outcome : Outcome
   outcome = encoding_of kind nodes keys material (length work) output
 
-  pub unknown_kind : 1 < kind → (r : Encoded) (work' : List ℕ) → answer_of r ≡ answer 20 0 0 → work' ≡ zeros (length work) → outcome_at r output work' ≡ outcome
+  leaves : Leaves output (length work) outcome
   unfolding encoding_of
-  unknown_kind h r work' a w = rw (lt-leb kind 1 h) (whole (refusing output (length work) 20 0) r output work' a refl w)
+  leaves = by (leb kind 1)
+    where
+      by : (b : Bool) → Leaves output (length work) (pick b (encoded (node_count nodes) (length work) output (tree_in (eqb kind 0) nodes keys material)) (refusing output (length work) 20 0))
+      by true = encoded_leaves (node_count nodes) (length work) output (tree_in (eqb kind 0) nodes keys material)
+      by false = refusing_leaves output (length work) 20 0
 
-  module _ (known : kind ≤ 1) (r : Encoded) (decides : Decides (eqb kind 0) nodes keys material (length work) (length output) r) where
-    known_outcome : outcome ≡ encoded (node_count nodes) (length work) output (tree_in (eqb kind 0) nodes keys material)
-    unfolding encoding_of
-    known_outcome = rw (le-leb kind 1 known)
+  module _ (a : encoding.Answer) (answers : Answers kind nodes keys material (length work) (length output) a) where
+    answer_is : a ≡ outcome.answer
+    answer_is = answers output refl
 
-    answer_is : answer_of r ≡ outcome.answer
-    answer_is = decides output refl ∙ ap (λ (o : Outcome). o.answer) (sym known_outcome)
+    pub decided_refusal : (a.number ≡ 0 → ⊥) → (r : Encoded) (work' : List ℕ) → answer_of r ≡ a → work' ≡ zeros (length work) → outcome_at r output work' ≡ outcome
+    decided_refusal some r work' e w =
+        whole outcome r output work' (e ∙ answer_is) (leaves.1 (λ z. some (ap (λ (x : encoding.Answer). x.number) answer_is ∙ z))) (w ∙ leaves.0)
 
-    leaves : Leaves output (length work) outcome
-    leaves = rw known_outcome (encoded_leaves (node_count nodes) (length work) output (tree_in (eqb kind 0) nodes keys material))
-
-    pub decided_refusal : (r.number ≡ 0 → ⊥) → (work' : List ℕ) → work' ≡ zeros (length work) → outcome_at r output work' ≡ outcome
-    decided_refusal some work' w =
-        whole outcome r output work' answer_is (leaves.1 (λ z. some (ap (λ (a : encoding.Answer). a.number) answer_is ∙ z))) (w ∙ leaves.0)
-
-    module _ (zero_number : r.number ≡ 0) where
+    module _ (zero_number : a.number ≡ 0) where
       written_tree : Written kind nodes keys material (length work) output
-      written_tree = accepted_is_written kind nodes keys material (length work) output (sym (ap (λ (a : encoding.Answer). a.number) answer_is) ∙ zero_number)
+      written_tree = accepted_is_written kind nodes keys material (length work) output (sym (ap (λ (x : encoding.Answer). x.number) answer_is) ∙ zero_number)
 
       pub writable : Writable (eqb kind 0) nodes keys material (length work) (length output)
       writable =
@@ -164,9 +167,29 @@ module _ (kind : ℕ) (nodes keys material work output : List ℕ) where
             out_room = rw w.holds w.room;
           }
 
-      pub decided_writing : (output' work' : List ℕ) → output' ≡ bytes_of (tree_in (eqb kind 0) nodes keys material) ++ drop (length (bytes_of (tree_in (eqb kind 0) nodes keys material))) output
+      pub decided_writing : (r : Encoded) (output' work' : List ℕ) → answer_of r ≡ a
+          → output' ≡ bytes_of (tree_in (eqb kind 0) nodes keys material) ++ drop (length (bytes_of (tree_in (eqb kind 0) nodes keys material))) output
           → work' ≡ zeros (length work) → outcome_at r output' work' ≡ outcome
-      decided_writing output' work' o w =
+      decided_writing r output' work' e o w =
           let v = written_tree in
           let out-is : output' ≡ outcome.output = o ∙ ap (λ (f : Found). bytes_of f ++ drop (length (bytes_of f)) output) v.holds ∙ sym (ap (λ (x : Outcome). x.output) v.outcome) in
-          whole outcome r output' work' answer_is out-is (w ∙ leaves.0)
+          whole outcome r output' work' (e ∙ answer_is) out-is (w ∙ leaves.0)
+
+-- every refusal has a number
+pub answer_numbered : (r : Refusal) → (refusal_answer r).number ≡ 0 → ⊥
+answer_numbered ScriptKind e = omega arith
+answer_numbered (Unsound r) e = refusal_numbered r e
+answer_numbered TooLong e = omega arith
+answer_numbered NoWork e = omega arith
+answer_numbered NoRoom e = omega arith
+
+-- with no bytes and place 0
+answer_without : (r : Refusal) → answer (refusal_answer r).number (refusal_answer r).reason 0 ≡ refusal_answer r
+answer_without ScriptKind = refl
+answer_without (Unsound r) = refl
+answer_without TooLong = refl
+answer_without NoWork = refl
+answer_without NoRoom = refl
+
+pub refused_with : (r : Refusal) {number reason : ℕ} → number ≡ (refusal_answer r).number → reason ≡ (refusal_answer r).reason → answer number reason 0 ≡ refusal_answer r
+refused_with r {number} {reason} n k = ap (λ (x : ℕ). answer x reason 0) n ∙ ap (λ (x : ℕ). answer (refusal_answer r).number x 0) k ∙ answer_without r

@@ -3,16 +3,16 @@
 // (crate `write_script`).
 #![tactic(auto)]
 
-ghost use Rattle.std.specs.Prelude.{◌≡◌, ◌≤◌, ◌<◌, length};
-ghost use Rattle.encoding.specs.Encoding.{node_count, encoding_of};
+ghost use Rattle.std.specs.Prelude.{◌≡◌, ◌<◌, length};
+ghost use Rattle.encoding.specs.Encoding.{encoding_of};
 ghost use Rattle.encode.specs.Encode.{answer, answer_of, outcome_at};
-ghost use Rattle.encode.specs.Decided.{told, room_refusal, Decides};
+ghost use Rattle.encode.specs.declared.Refusal.TheVariants.{Unsound};
+ghost use Rattle.encode.specs.Decided.{refusal_answer, room_told, room_refusal, Decides};
 
 use closing::check_tree;
 use script_length::script_length;
 use tables::clear_work;
 use write_script::write_script;
-use writes::earlier;
 
 // What the encoder answers: document 01's number and reason, 0 where it accepts; the place, which is always 0; and how
 // many bytes it wrote.
@@ -23,6 +23,52 @@ pub struct Encoded {
     pub reason: u32,
     pub place: usize,
     pub bytes: usize,
+}
+
+// Why nothing is written.
+#[derive(Clone, Copy)]
+enum Refusal {
+    // 20.
+    ScriptKind,
+    // 21, 11 to 14, 19.
+    Unsound(closing::Refusal),
+    // More than 10,000 bytes: 1.
+    TooLong,
+    // Too little work: 17.
+    NoWork,
+    // Too small an output: 22.
+    NoRoom,
+}
+
+impl Refusal {
+    fn number(self) -> u32
+        ensures { result ≡ (refusal_answer self).number }
+    {
+        match self {
+            Refusal::ScriptKind => 20,
+            Refusal::Unsound(refusal) => refusal.number(),
+            Refusal::TooLong => 1,
+            Refusal::NoWork => 17,
+            Refusal::NoRoom => 22,
+        }
+    }
+
+    fn reason(self) -> u32
+        ensures { result ≡ (refusal_answer self).reason }
+    {
+        match self {
+            Refusal::Unsound(refusal) => refusal.reason(),
+            _ => 0,
+        }
+    }
+}
+
+impl From<closing::Refusal> for Refusal {
+    ghost from_gives = { λ e r. r ≡ Unsound e };
+
+    fn from(refusal: closing::Refusal) -> Refusal {
+        Refusal::Unsound(refusal)
+    }
 }
 
 fn answered(number: u32, reason: u32, bytes: usize) -> Encoded
@@ -36,48 +82,42 @@ fn answered(number: u32, reason: u32, bytes: usize) -> Encoded
     }
 }
 
-// A refusal's number, 0 if there is none.
-fn when(refuses: bool, number: u32) -> u32
-    ensures { result ≡ told refuses number }
-{
-    if refuses {
-        return number;
-    }
-    0
-}
-
 // More than 10,000 bytes are 1, then too little work is 17, then too small an output is 22.
-fn room_refusal(nodes: usize, bytes: usize, work: usize, out: usize) -> u32
+fn check_room(nodes: usize, bytes: usize, work: usize, out: usize) -> Result<(), Refusal>
     requires { nodes < 1152921504606846976 }
-    ensures { result ≡ room_refusal nodes bytes work out }
+    ensures { room_told result ≡ answer (room_refusal nodes bytes work out) 0 0 }
 {
-    let long = when(lex::SCRIPT_LIMIT < bytes, 1);
-    let busy = when(work < 8 * nodes + 2, 17);
-    let full = when(out < bytes, 22);
-    earlier(long, earlier(busy, full))
+    if lex::SCRIPT_LIMIT < bytes {
+        return Err(Refusal::TooLong);
+    }
+    if work < 8 * nodes + 2 {
+        return Err(Refusal::NoWork);
+    }
+    if out < bytes {
+        return Err(Refusal::NoRoom);
+    }
+    Ok(())
 }
 
-// The answer, decided with nothing written: by the checks of the nodes, then by the length and the room.
+// How many bytes are to be written, decided with nothing written: by the script kind, by the checks of the nodes, then by
+// the length and the room.
 fn decide(
-    segwit: bool,
+    kind: u32,
     nodes: &[u32],
     keys: &[u32],
     material: &[u8],
     work: usize,
     out: usize,
-) -> Encoded
-    ensures { Decides segwit nodes.now keys.now material.now work out result }
+) -> Result<usize, Refusal>
+    ensures { Decides kind nodes.now keys.now material.now work out result }
 {
-    let said = check_tree(segwit, nodes, keys, material);
-    if said.number != 0 {
-        return answered(said.number, said.reason, 0);
+    if 1 < kind {
+        return Err(Refusal::ScriptKind);
     }
-    let bytes = script_length(segwit, nodes);
-    let number = room_refusal(nodes.len() / 9, bytes, work, out);
-    if number != 0 {
-        return answered(number, 0, 0);
-    }
-    answered(0, 0, bytes)
+    check_tree(kind == 0, nodes, keys, material)?;
+    let bytes = script_length(kind == 0, nodes);
+    check_room(nodes.len() / 9, bytes, work, out)?;
+    Ok(bytes)
 }
 
 // Writes the script of the tree that the node table holds: its kind (0 segwit, 1 tapscript), the nodes, the key table, the
@@ -93,16 +133,14 @@ pub fn encode(
 ) -> Encoded
     ensures { outcome_at result out.new work.new ≡ encoding_of kind nodes.now keys.now material.now (length work.old) out.old }
 {
-    if 1 < kind {
-        clear_work(work);
-        return answered(20, 0, 0);
-    }
-    let decided = decide(kind == 0, nodes, keys, material, work.len(), out.len());
-    if decided.number != 0 {
-        clear_work(work);
-        return decided;
-    }
+    let bytes = match decide(kind, nodes, keys, material, work.len(), out.len()) {
+        Ok(bytes) => bytes,
+        Err(refusal) => {
+            clear_work(work);
+            return answered(refusal.number(), refusal.reason(), 0);
+        }
+    };
     write_script(kind == 0, nodes, keys, material, work, out);
     clear_work(work);
-    decided
+    answered(0, 0, bytes)
 }

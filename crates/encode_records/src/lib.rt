@@ -20,22 +20,17 @@ fn too_short(cells: usize, nodes: usize) -> bool
 fn copy_fitting(records: &[Node], flat: &mut [u32])
     ensures { flat.new ≡ copied_into records.now flat.old }
 {
-    if too_short(flat.len(), records.len()) {
-        return;
+    if !too_short(flat.len(), records.len()) {
+        node_records::copy_in(records, &mut *flat);
     }
-    node_records::copy_in(records, &mut *flat);
 }
 
 // The answer where the flat table has no room for the nodes: an unknown script kind comes first, as everywhere.
 fn no_room(kind: u32) -> Encoded
     ensures { answer_of result ≡ answer (no_room kind) 0 0 }
 {
-    let mut number = 17;
-    if 1 < kind {
-        number = 20;
-    }
     Encoded {
-        number,
+        number: if 1 < kind { 20 } else { 17 },
         reason: 0,
         place: 0,
         bytes: 0,

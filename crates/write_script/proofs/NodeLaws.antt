@@ -16,8 +16,8 @@ use Rattle.standard.specs.Table.{Node, Terminal, noTerminal, isTrue, isFalse, is
 use Rattle.encoding.specs.Form.{shape, shape_of, formed_as, well_formed}
 use Rattle.encoding.specs.FormLaws.{keys_range}
 use Rattle.emit.specs.declared.Pen.{Pen}
-use Rattle.emit.specs.Emission.{pen, inked_all, penned_all}
-use Rattle.pieces.specs.Pieces.{Piece, entries, pieces_in, tags_of, add_tags, thresh_tags, tags_in, SUBTREE}
+use Rattle.emit.specs.Emission.{inked_all, penned_all}
+use Rattle.pieces.specs.Pieces.{Piece, entries, pieces_in, tags_of, add_tags, thresh_tags, SUBTREE}
 use Rattle.pieces.proofs.EntryLaws.{AllTags, entered, thresh_length}
 use Rattle.emit_multi.specs.Multis.{multi_script, multi_a_script, Ready}
 use Rattle.write_script.specs.declared.State.{State}
@@ -106,7 +106,7 @@ module _ (segwit : Bool) (nodes keys material before all work out : List ℕ) (s
   node = node_at nodes (s.left - 1)
 
   abbrev p₀ : Pen
-  p₀ = pen s.at s.last
+  p₀ = s.pen
 
   o : Opened segwit nodes keys material before all work out s
   o = opened segwit nodes keys material g some_work tag
@@ -138,21 +138,18 @@ module _ (segwit : Bool) (nodes keys material before all work out : List ℕ) (s
         subst (λ (k : ℕ). Kept now out (state k (s.left - 1) p₀)) (sym f) kept
 
     -- a template
-    module _ (a : node.kind ≡ 26 → ⊥) (b : node.kind ≡ 27 → ⊥) (c : node.kind ≡ 28 → ⊥) (r : ℕ) (e : tags_in 8 r ≡ reverse (tags_of segwit (terminal_of node.kind))) where
-      tags_length : length (tags_in 8 r) ≡ length (tags_of segwit (terminal_of node.kind))
-      tags_length = ap length e ∙ length-reverse (tags_of segwit (terminal_of node.kind))
-
+    module _ (a : node.kind ≡ 26 → ⊥) (b : node.kind ≡ 27 → ⊥) (c : node.kind ≡ 28 → ⊥) (r : List ℕ) (e : r ≡ tags_of segwit (terminal_of node.kind)) where
       template_said : Says (says.entered material node (reverse (tags_of segwit (terminal_of node.kind))) (pieces_in material work (s.work - 1))) (pieces_in material work (s.work - 1)) (length (tags_of segwit (terminal_of node.kind))) o.ts o.t o.us
       template_said = template_says segwit material keys node (pieces_in material work (s.work - 1)) (terminal_of node.kind) o.ts o.us o.t (templated node.kind a b c) o.passed.makes
 
-      pub template_fits : s.work - 1 + length (tags_in 8 r) ≤ length work
-      template_fits = omega (arith, tags_length, pieces_room segwit nodes keys material g some_work o (length (tags_of segwit (terminal_of node.kind))) template_said.few)
+      pub template_fits : s.work - 1 + length r ≤ length work
+      template_fits = omega (arith, ap length e, pieces_room segwit nodes keys material g some_work o (length (tags_of segwit (terminal_of node.kind))) template_said.few)
 
-      pub template_kept : (now : List ℕ) → now ≡ put_at work (s.work - 1) (entries node.number node.place (tags_in 8 r)) → (n : ℕ) → n ≡ s.work - 1 + length (tags_in 8 r) → Kept now out (state n (s.left - 1) p₀)
+      pub template_kept : (now : List ℕ) → now ≡ put_at work (s.work - 1) (entries node.number node.place (reverse r)) → (n : ℕ) → n ≡ s.work - 1 + length r → Kept now out (state n (s.left - 1) p₀)
       template_kept now f n k =
           entered_kept (reverse (tags_of segwit (terminal_of node.kind))) (small_tags_lem (reverse (tags_of segwit (terminal_of node.kind))) (template_small segwit (terminal_of node.kind)))
           (length (tags_of segwit (terminal_of node.kind))) (length-reverse (tags_of segwit (terminal_of node.kind))) template_said
-          now (f ∙ ap (λ (ts : List ℕ). put_at work (s.work - 1) (entries node.number node.place ts)) e) n (k ∙ ap (λ (j : ℕ). s.work - 1 + j) tags_length)
+          now (f ∙ ap (λ (ts : List ℕ). put_at work (s.work - 1) (entries node.number node.place (reverse ts))) e) n (k ∙ ap (λ (ts : List ℕ). s.work - 1 + length ts) e)
 
     -- a thresh
     module _ (e : node.kind ≡ 26) (count : ℕ) (c : count ≡ node.count) where

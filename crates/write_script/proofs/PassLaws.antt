@@ -2,7 +2,7 @@
 use mathlib.Core.Path.{◌≡◌, refl, sym, ap, subst}
 use mathlib.Core.Bool.{Bool}
 use mathlib.Core.List.{List, [], ◌∷◌, ◌++◌}
-use Prim.Native.Nat.{ℕ, ◌+◌, ◌≤◌}
+use Prim.Native.Nat.{ℕ, ◌≤◌}
 use native.Mathlib.Omega.{arith}
 use lib.ListN.{length, set, drop, length-set}
 use lib.Seq.{get_or-set_same}
@@ -61,7 +61,7 @@ module _ (segwit : Bool) (nodes keys material : List ℕ) where
                 inside = omega arith;
               }
 
-  pub ended : (before all work out : List ℕ) (s : State) → GoingOn segwit nodes keys material before all work out s → s.work ≤ 0 → (out ≡ all ++ drop (length all) before) × (s.at ≡ length all)
+  pub ended : (before all work out : List ℕ) (s : State) → GoingOn segwit nodes keys material before all work out s → s.work ≤ 0 → (out ≡ all ++ drop (length all) before) × (s.pen.at ≡ length all)
   ended before all work out s g h =
       let z : s.work ≡ 0 = omega arith in
-      wrote_all_of_it (subst (λ (k : ℕ). Wrote before all out (pen s.at s.last) (text (pieces_in material work k) g.trees)) z g.wrote)
+      wrote_all_of_it (subst (λ (k : ℕ). Wrote before all out s.pen (text (pieces_in material work k) g.trees)) z g.wrote)

@@ -20,7 +20,7 @@ use Rattle.encoding.specs.Encoding.{node_count}
 use Rattle.encoding.proofs.Passed.{Passed, made_of, size_of_children}
 use Rattle.encoding.proofs.Stands.{Stands, empty, more, stands_length}
 use Rattle.emit.specs.declared.Pen.{Pen}
-use Rattle.emit.specs.Emission.{pen, inked, penned, Coded, Room, inked_all, penned_all, RoomForAll}
+use Rattle.emit.specs.Emission.{inked, penned, Coded, Room, inked_all, penned_all, RoomForAll}
 use Rattle.emit.proofs.PenLaws.{Wrote, wrote_length, wrote_more, wrote_room, AllCoded, wrote_several}
 use Rattle.pieces.specs.Pieces.{Piece, subtree, writes, lexeme_in, piece_of, pieces_in, Whole}
 use Rattle.pieces.proofs.EntryLaws.{taken}
@@ -77,7 +77,7 @@ module _ (segwit : Bool) (nodes keys material : List ℕ) where
     pub stands : Stands segwit material keys (newest (node_at nodes) (s.left - 1)) ts
     pub passed : Passed segwit material keys (node_at nodes (s.left - 1)) ts t us
     pub asked : subtrees (pieces_in material work (s.work - 1)) ≡ many us
-    pub wrote : Wrote before all out (pen s.at s.last) (tree_before t (text (pieces_in material work (s.work - 1)) us))
+    pub wrote : Wrote before all out s.pen (tree_before t (text (pieces_in material work (s.work - 1)) us))
     pub whole : AllWhole (tree_before t (text (pieces_in material work (s.work - 1)) us))
     pub room : s.work + 8 * (size t + sizes us) + 1 ≤ 8 * node_count nodes + 2 * suc (many us)
     pub pieces_are : pieces_in material work s.work ≡ subtree ∷ pieces_in material work (s.work - 1)
@@ -90,7 +90,7 @@ module _ (segwit : Bool) (nodes keys material : List ℕ) where
     others = pieces_in material work (s.work - 1)
 
     split_trees : (left : ℕ) (trees : Trees) → Stands segwit material keys (newest (node_at nodes) left) trees → subtrees (subtree ∷ others) ≡ many trees
-        → Wrote before all out (pen s.at s.last) (text (subtree ∷ others) trees) → AllWhole (text (subtree ∷ others) trees)
+        → Wrote before all out s.pen (text (subtree ∷ others) trees) → AllWhole (text (subtree ∷ others) trees)
         → s.work + 8 * sizes trees + 1 ≤ 8 * node_count nodes + 2 * many trees → left ≡ s.left → pieces_in material work s.work ≡ subtree ∷ others
         → Opened before all work out s
     split_trees left nil st a w h r e p = let no : ⊥ = omega arith in absurd no
@@ -117,7 +117,7 @@ module _ (segwit : Bool) (nodes keys material : List ℕ) where
     opened h =
         let e : pieces_in material work s.work ≡ subtree ∷ others = taken material work s.work some_work ∙ ap (λ (x : Piece). x ∷ others) (is_subtree material next_piece h) in
         split_trees s.left g.trees g.stands (ap subtrees (sym e) ∙ g.asked)
-        (subst (λ (ps : List Piece). Wrote before all out (pen s.at s.last) (text ps g.trees)) e g.wrote)
+        (subst (λ (ps : List Piece). Wrote before all out s.pen (text ps g.trees)) e g.wrote)
         (subst (λ (ps : List Piece). AllWhole (text ps g.trees)) e g.whole)
         g.room refl e
 
@@ -126,28 +126,28 @@ module _ (segwit : Bool) (nodes keys material : List ℕ) where
       lexeme_first : pieces_in material work s.work ≡ writes (lexeme_in material next_piece) ∷ others
       lexeme_first = taken material work s.work some_work ∙ ap (λ (x : Piece). x ∷ others) (is_lexeme material next_piece h)
 
-      first_wrote : Wrote before all out (pen s.at s.last) (lexeme_in material next_piece ∷ text others g.trees)
-      first_wrote = subst (λ (ps : List Piece). Wrote before all out (pen s.at s.last) (text ps g.trees)) lexeme_first g.wrote
+      first_wrote : Wrote before all out s.pen (lexeme_in material next_piece ∷ text others g.trees)
+      first_wrote = subst (λ (ps : List Piece). Wrote before all out s.pen (text ps g.trees)) lexeme_first g.wrote
 
       first_whole : AllWhole (lexeme_in material next_piece ∷ text others g.trees)
       first_whole = subst (λ (ps : List Piece). AllWhole (text ps g.trees)) lexeme_first g.whole
 
-      pub lexeme_ready : (Room (length out) (pen s.at s.last) (lexeme_in material next_piece)) × (Whole (lexeme_in material next_piece))
+      pub lexeme_ready : (Room (length out) s.pen (lexeme_in material next_piece)) × (Whole (lexeme_in material next_piece))
       lexeme_ready = (
-        subst (λ (k : ℕ). Room k (pen s.at s.last) (lexeme_in material next_piece)) (sym (wrote_length first_wrote))
+        subst (λ (k : ℕ). Room k s.pen (lexeme_in material next_piece)) (sym (wrote_length first_wrote))
             (wrote_room (lexeme_in material next_piece) (text others g.trees) first_wrote (whole_coded (lexeme_in material next_piece) first_whole.0)),
         first_whole.0,
       )
 
-      pub lexeme_kept : (now : List ℕ) (p : Pen) → now ≡ inked out (pen s.at s.last) (lexeme_in material next_piece) → p ≡ penned (pen s.at s.last) (lexeme_in material next_piece)
+      pub lexeme_kept : (now : List ℕ) (p : Pen) → now ≡ inked out s.pen (lexeme_in material next_piece) → p ≡ penned s.pen (lexeme_in material next_piece)
           → GoingOn segwit nodes keys material before all work now (state (s.work - 1) s.left p) × (to_write others s.left < to_write (pieces_in material work s.work) s.left)
       lexeme_kept now p e f =
           let a : subtrees others ≡ many g.trees = ap subtrees (sym lexeme_first) ∙ g.asked in
-          let moved : Wrote before all (inked out (pen s.at s.last) (lexeme_in material next_piece)) (penned (pen s.at s.last) (lexeme_in material next_piece)) (text others g.trees) =
+          let moved : Wrote before all (inked out s.pen (lexeme_in material next_piece)) (penned s.pen (lexeme_in material next_piece)) (text others g.trees) =
           wrote_more (lexeme_in material next_piece) (text others g.trees) first_wrote in
           let here : Wrote before all now p (text others g.trees) =
           subst (λ (x : List ℕ). Wrote before all x p (text others g.trees)) (sym e)
-          (subst (λ (x : Pen). Wrote before all (inked out (pen s.at s.last) (lexeme_in material next_piece)) x (text others g.trees)) (sym f) moved) in
+          (subst (λ (x : Pen). Wrote before all (inked out s.pen (lexeme_in material next_piece)) x (text others g.trees)) (sym f) moved) in
           let stood : length (newest (node_at nodes) s.left) ≡ sizes g.trees = stands_length segwit material keys g.stands in (
             record {
               trees = g.trees;
@@ -182,7 +182,7 @@ module _ (segwit : Bool) (nodes keys material : List ℕ) where
     pieces_room pieces h = omega (arith, o.room, g.enough, size_of_children o.t, many_sizes (children o.t), many_sizes o.us)
 
     pub pieces_kept : (now : List ℕ) (pieces : ℕ) → length now ≡ length work → Says (pieces_in material now (s.work - 1 + pieces)) under pieces o.ts o.t o.us
-        → GoingOn segwit nodes keys material before all now out (state (s.work - 1 + pieces) (s.left - 1) (pen s.at s.last))
+        → GoingOn segwit nodes keys material before all now out (state (s.work - 1 + pieces) (s.left - 1) s.pen)
         × (to_write (pieces_in material now (s.work - 1 + pieces)) (s.left - 1) < to_write (pieces_in material work s.work) s.left)
     pieces_kept now pieces k says =
         let m : many o.ts ≡ many (children o.t) + many o.us = ap many makes_of ∙ many_append (children o.t) o.us in
@@ -192,7 +192,7 @@ module _ (segwit : Bool) (nodes keys material : List ℕ) where
             trees = o.ts;
             stands = o.stands;
             asked = says.same_many ∙ omega (arith, o.asked);
-            wrote = subst (λ (l : List Lexeme). Wrote before all out (pen s.at s.last) l) (sym says.same_text) o.wrote;
+            wrote = subst (λ (l : List Lexeme). Wrote before all out s.pen l) (sym says.same_text) o.wrote;
             whole = subst AllWhole (sym says.same_text) o.whole;
             room = omega (arith, o.room, size_of_children o.t, says.few);
             enough = omega (arith, g.enough);
@@ -203,30 +203,30 @@ module _ (segwit : Bool) (nodes keys material : List ℕ) where
 
     -- written at once
     module _ (script : List Lexeme) (l : Leafs script o.ts o.t o.us) where
-      script_wrote : Wrote before all out (pen s.at s.last) (script ++ text under o.us)
-      script_wrote = subst (λ (x : List Lexeme). Wrote before all out (pen s.at s.last) x) (sym (l.same_script (text under o.us))) o.wrote
+      script_wrote : Wrote before all out s.pen (script ++ text under o.us)
+      script_wrote = subst (λ (x : List Lexeme). Wrote before all out s.pen x) (sym (l.same_script (text under o.us))) o.wrote
 
       script_whole : AllWhole (script ++ text under o.us)
       script_whole = subst AllWhole (sym (l.same_script (text under o.us))) o.whole
 
-      several : RoomForAll (length before) (pen s.at s.last) script × Wrote before all (inked_all out (pen s.at s.last) script) (penned_all (pen s.at s.last) script) (text under o.us)
+      several : RoomForAll (length before) s.pen script × Wrote before all (inked_all out s.pen script) (penned_all s.pen script) (text under o.us)
       several = wrote_several script (text under o.us) script_wrote (all_coded script (whole_front script (text under o.us) script_whole).0)
 
-      pub script_ready : Ready (length out) (pen s.at s.last) script
+      pub script_ready : Ready (length out) s.pen script
       script_ready =
           record {
-            room = subst (λ (k : ℕ). RoomForAll k (pen s.at s.last) script) (sym (wrote_length o.wrote)) several.0;
+            room = subst (λ (k : ℕ). RoomForAll k s.pen script) (sym (wrote_length o.wrote)) several.0;
             whole = (whole_front script (text under o.us) script_whole).0;
           }
 
-      pub script_kept : (now : List ℕ) (p : Pen) → now ≡ inked_all out (pen s.at s.last) script → p ≡ penned_all (pen s.at s.last) script
+      pub script_kept : (now : List ℕ) (p : Pen) → now ≡ inked_all out s.pen script → p ≡ penned_all s.pen script
           → GoingOn segwit nodes keys material before all work now (state (s.work - 1) (s.left - 1) p) × (to_write under (s.left - 1) < to_write (pieces_in material work s.work) s.left)
       script_kept now p e f =
           let stood : length (newest (node_at nodes) (s.left - 1)) ≡ sizes o.ts = stands_length segwit material keys o.stands in
           let same : sizes o.ts ≡ sizes o.us = ap sizes (sym l.untouched) in
           let here : Wrote before all now p (text under o.us) =
           subst (λ (x : List ℕ). Wrote before all x p (text under o.us)) (sym e)
-          (subst (λ (x : Pen). Wrote before all (inked_all out (pen s.at s.last) script) x (text under o.us)) (sym f) several.1) in (
+          (subst (λ (x : Pen). Wrote before all (inked_all out s.pen script) x (text under o.us)) (sym f) several.1) in (
             record {
               trees = o.us;
               stands = subst (λ (x : Trees). Stands segwit material keys (newest (node_at nodes) (s.left - 1)) x) (sym l.untouched) o.stands;

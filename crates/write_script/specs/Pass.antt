@@ -6,7 +6,6 @@ use Rattle.standard.specs.Table.{node_at}
 use Rattle.encoding.specs.Encoding.{node_count}
 use Rattle.encoding.proofs.Stands.{Stands}
 use Rattle.emit.specs.declared.Pen.{Pen}
-use Rattle.emit.specs.Emission.{pen}
 use Rattle.emit.proofs.PenLaws.{Wrote}
 use Rattle.pieces.specs.Pieces.{pieces_in}
 use Rattle.emit_multi.specs.Multis.{AllWhole}
@@ -15,7 +14,7 @@ use Rattle.write_script.specs.Text.{text, subtrees, to_write}
 
 -- how far the pass has come, by its pen
 abbrev pub state : ℕ → ℕ → Pen → State
-state work left p = record { work = work; left = left; at = p.at; last = p.last }
+state work left p = record { work = work; left = left; pen = p }
 
 -- the pieces and the nodes still to be taken come to the rest of the script
 pub record GoingOn (segwit : Bool) (nodes keys material before all work out : List ℕ) (s : State) : Type 0 where
@@ -23,7 +22,7 @@ pub record GoingOn (segwit : Bool) (nodes keys material before all work out : Li
   pub trees : Trees
   pub stands : Stands segwit material keys (newest (node_at nodes) s.left) trees
   pub asked : subtrees (pieces_in material work s.work) ≡ many trees
-  pub wrote : Wrote before all out (pen s.at s.last) (text (pieces_in material work s.work) trees)
+  pub wrote : Wrote before all out s.pen (text (pieces_in material work s.work) trees)
   pub whole : AllWhole (text (pieces_in material work s.work) trees)
   pub room : s.work + 8 * sizes trees + 1 ≤ 8 * node_count nodes + 2 * many trees
   pub enough : 8 * node_count nodes + 2 ≤ length work

@@ -5,28 +5,17 @@
 ghost use Rattle.std.specs.Prelude.{◌≡◌, ◌++◌, ◌-◌, ◌%◌, length, drop, get_or};
 ghost use Rattle.encoding.specs.Encoding.{tree_in};
 ghost use Rattle.write_script.specs.Writing.{bytes_of, Writable};
-ghost use Rattle.write_script.specs.Pass.{state, Going, Keeps};
+ghost use Rattle.write_script.specs.Pass.{Going, Keeps};
 
 use emit::Pen;
+use row::kind;
 
 // How far the pass has come: so many pieces still to be written, so many nodes still to be taken, and the pen.
 #[derive(Clone, Copy)]
 pub struct State {
     pub work: usize,
     pub left: usize,
-    pub at: usize,
-    pub last: u32,
-}
-
-fn stated(work: usize, left: usize, pen: Pen) -> State
-    ensures { result ≡ state work left pen }
-{
-    State {
-        work,
-        left,
-        at: pen.at,
-        last: pen.last,
-    }
+    pub pen: Pen,
 }
 
 // A subtree taken off the work list: the next node's pieces are entered, or a multi or multi_a is written at once.
@@ -45,37 +34,33 @@ fn take_node(
 {
     let w = s.work - 1;
     let i = s.left - 1;
-    let pen = Pen {
-        at: s.at,
-        last: s.last,
-    };
-    let kind = nodes[9 * i];
     let number = nodes[9 * i + 1];
-    let count = tables::long(nodes[9 * i + 2]);
+    let count = nodes[9 * i + 2] as usize;
     let place = nodes[9 * i + 3];
-    if kind == 26 {
-        let n = pieces::enter_thresh(work, w, count - 1, number, place);
-        return stated(n, i, pen);
+    let first = place as usize;
+    let kind = nodes[9 * i];
+    match kind {
+        kind::THRESH => State {
+            work: pieces::enter_thresh(work, w, count - 1, number, place),
+            left: i,
+            pen: s.pen,
+        },
+        kind::MULTI => State {
+            work: w,
+            left: i,
+            pen: emit_multi::emit_multi(keys, material, out, s.pen, number, first, count),
+        },
+        kind::MULTI_A => State {
+            work: w,
+            left: i,
+            pen: emit_multi::emit_multi_a(keys, material, out, s.pen, number, first, count - 1),
+        },
+        _ => State {
+            work: pieces::enter(work, w, pieces::template(segwit, kind), number, place),
+            left: i,
+            pen: s.pen,
+        },
     }
-    if kind == 27 {
-        let p = emit_multi::emit_multi(
-            keys,
-            material,
-            out,
-            pen,
-            number,
-            tables::long(place),
-            count,
-        );
-        return stated(w, i, p);
-    }
-    if kind == 28 {
-        let first = tables::long(place);
-        let p = emit_multi::emit_multi_a(keys, material, out, pen, number, first, count - 1);
-        return stated(w, i, p);
-    }
-    let n = pieces::enter(work, w, pieces::template(segwit, kind), number, place);
-    stated(n, i, pen)
 }
 
 // One piece taken off the work list. A lexeme is written.
@@ -92,16 +77,15 @@ fn step(
     ensures { Keeps segwit nodes.now keys.now material.now work.old out.old s work.new out.new result }
 {
     let w = s.work - 1;
-    let pen = Pen {
-        at: s.at,
-        last: s.last,
-    };
     let piece = work[w];
-    if piece % 64 == pieces::SUBTREE {
+    if piece % 64 == u64::from(pieces::SUBTREE) {
         return take_node(segwit, nodes, keys, material, work, out, s);
     }
-    let p = pieces::emit_piece(out, pen, material, piece);
-    stated(w, s.left, p)
+    State {
+        work: w,
+        left: s.left,
+        pen: pieces::emit_piece(out, s.pen, material, piece),
+    }
 }
 
 // Writes the script of the tree that a node table holds at the front of the output, and answers how many bytes it has.
@@ -116,15 +100,14 @@ pub fn write_script(
     requires { Writable segwit nodes.now keys.now material.now (length work.old) (length out.old) }
     ensures { (out.new ≡ bytes_of (tree_in segwit nodes.now keys.now material.now) ++ drop (length (bytes_of (tree_in segwit nodes.now keys.now material.now))) out.old) × (result ≡ length (bytes_of (tree_in segwit nodes.now keys.now material.now))) }
 {
-    work[0] = pieces::SUBTREE;
+    work[0] = u64::from(pieces::SUBTREE);
     let mut s = State {
         work: 1,
         left: nodes.len() / 9,
-        at: 0,
-        last: 0,
+        pen: Pen { at: 0, last: 0 },
     };
     while 0 < s.work {
         s = step(segwit, nodes, keys, material, work, out, s);
     }
-    s.at
+    s.pen.at
 }

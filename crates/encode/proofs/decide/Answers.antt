@@ -1,8 +1,31 @@
-use Rattle.encode.proofs.EncodeLaws.{refused_by_room, accepted}
+-- `encode::decide` meets its contract. The ways of EncodeLaws.
+use Rattle.std.proofs.Common.{refl, sym, ap, subst, ◌∙◌, Err}
+use Rattle.std.proofs.lemmas.Result.{err_from_is_err_and}
+use Rattle.encoding.specs.Encoding as encoding
+use Rattle.closing.specs.Verdicts.{verdict, refusal_verdict}
+use Rattle.closing.proofs.CheckLaws.{refusal_numbered}
+use Rattle.encode.specs.Decided.{Answers, answer_told}
+use Rattle.encode.proofs.EncodeLaws.{unknown_kind, refused_by_checks, refused_by_room, accepted, answer_numbered}
 use Rattle.encode.proofs.decide.Goals as goal
 
-pub returns-then-number-ne0 : goal.returns-then-number-ne0
-returns-then-number-ne0 c = refused_by_room c.args.segwit c.args.nodes.now c.args.keys.now c.args.material.now c.args.work c.args.out c.check_tree-said.result c.check_tree-said.ensures c.if-said-ne0.false c.script_length-bytes.result c.room_refusal-number.result c.script_length-bytes.ensures c.room_refusal-number.ensures c.if-number-ne0.true c.answered-then-number-ne0.result c.answered-then-number-ne0.ensures
+pub returns-then-kind-gt1 : goal.returns-then-kind-gt1
+returns-then-kind-gt1 c = unknown_kind c.args.kind c.args.nodes.now c.args.keys.now c.args.material.now c.args.work c.args.out c.if-kind-gt1.true
+
+pub returns-in_err-check_tree : goal.returns-in_err-check_tree
+returns-in_err-check_tree c =
+    let p = err_from_is_err_and c.from_residual.result c.from_residual.ensures.1 in
+    subst (Answers c.args.kind c.args.nodes.now c.args.keys.now c.args.material.now c.args.work c.args.out) (sym (ap answer_told (p.1 ∙ ap Err p.2)))
+    (refused_by_checks c.args.kind c.args.nodes.now c.args.keys.now c.args.material.now c.args.work c.args.out c.if-kind-gt1.false (refusal_verdict c.in_err-check_tree.field-0.0) c.in_err-check_tree.ensures (refusal_numbered c.in_err-check_tree.field-0.0))
+
+pub returns-in_err-check_room : goal.returns-in_err-check_room
+returns-in_err-check_room c =
+    let p = err_from_is_err_and c.from_residual-in_err-check_room.result c.from_residual-in_err-check_room.ensures.1 in
+    let e = c.in_err-check_room.ensures in
+    subst (Answers c.args.kind c.args.nodes.now c.args.keys.now c.args.material.now c.args.work c.args.out) (sym (ap answer_told (p.1 ∙ ap Err p.2) ∙ e))
+    (refused_by_room c.args.kind c.args.nodes.now c.args.keys.now c.args.material.now c.args.work c.args.out c.if-kind-gt1.false (verdict 0 0) c.in_ok-check_tree.ensures refl c.script_length-bytes.result c.script_length-bytes.ensures
+    (λ z. answer_numbered c.in_err-check_room.field-0.0 (ap (λ (a : encoding.Answer). a.number) e ∙ z)))
 
 pub returns : goal.returns
-returns c = accepted c.args.segwit c.args.nodes.now c.args.keys.now c.args.material.now c.args.work c.args.out c.check_tree-said.result c.check_tree-said.ensures c.if-said-ne0.false c.script_length-bytes.result c.room_refusal-number.result c.script_length-bytes.ensures c.room_refusal-number.ensures c.if-number-ne0.false c.answered-2.result c.answered-2.ensures
+returns c =
+    accepted c.args.kind c.args.nodes.now c.args.keys.now c.args.material.now c.args.work c.args.out c.if-kind-gt1.false (verdict 0 0) c.in_ok-check_tree.ensures refl c.script_length-bytes.result c.script_length-bytes.ensures
+    (sym (ap (λ (a : encoding.Answer). a.number) c.in_ok-check_room.ensures))

@@ -6,7 +6,7 @@ use Rattle.write_script.specs.Writing.{bytes_of}
 use mathlib.Core.Path.{refl}
 
 pub loop-s-init : goal.loop-s-init
-loop-s-init c = (begun c.args.segwit c.args.nodes.now c.args.keys.now c.args.material.now c.args.work.now c.args.out.now c.requires, refl, refl)
+loop-s-init c = rw c.from.ensures (begun c.args.segwit c.args.nodes.now c.args.keys.now c.args.material.now c.args.work.now c.args.out.now c.requires, refl, refl)
 
 pub loop-s-smaller : goal.loop-s-smaller
 loop-s-smaller c = (c.step-s.ensures c.args.out.now (bytes_of (tree_in c.args.segwit c.args.nodes.now c.args.keys.now c.args.material.now)) c.loop-s.invariant.0).1
