@@ -2,7 +2,6 @@
 use mathlib.Core.Path.{◌≡◌, ap}
 use Prim.Native.Nat.{ℕ, ◌+◌, ◌-◌, ◌*◌, ◌≤◌}
 use native.Mathlib.Omega.{arith}
-use mathlib.Core.List.{List}
 use Rattle.cursor.specs.declared.NextToken.{NextToken}
 use Rattle.cursor.specs.declared.Took.{Took}
 use Rattle.cursor.specs.Reading.{took_of}
