@@ -162,7 +162,18 @@ fn run(kind: u32, hex: &[u8]) {
 // The twelve before the bar.
 fn proved_together() {
     for hex in [
-        "", "51", "516951", "5169516951", "6351670068", "517c519b", "005187", "005287", "6351", "8769", "00b2", "7663516968",
+        "",
+        "51",
+        "516951",
+        "5169516951",
+        "6351670068",
+        "517c519b",
+        "005187",
+        "005287",
+        "6351",
+        "8769",
+        "00b2",
+        "7663516968",
     ] {
         run(0, hex.as_bytes());
     }
@@ -179,7 +190,9 @@ fn run_long() {
 
 // Those behind it: one that is accepted, pushes, other opcodes.
 fn run_only() {
-    for hex in ["51b2", "0105", "0111", "0180", "0191", "027f00", "4c", "4f", "88"] {
+    for hex in [
+        "51b2", "0105", "0111", "0180", "0191", "027f00", "4c", "4f", "88",
+    ] {
         run(0, hex.as_bytes());
     }
     run_long();
