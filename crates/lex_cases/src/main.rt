@@ -1,7 +1,7 @@
 // Runs the lexer on document 01's scripts that are its matter and on the edges of its rules, and writes for each: the script, number, place and tokens, then each token's code, number and place. At the end, the room that some scripts need.
 #![tactic(auto)]
 
-use lex::{Ample, Answer};
+use lex::Refused;
 use printing::{line, space};
 
 // Number, place and tokens: document 01's three numbers of an answer.
@@ -30,11 +30,11 @@ fn show(table: &[u32], n: usize) {
 
 fn lex_and_show(s: &[u8], t: &mut [u32]) {
     match lex::lex(s, t) {
-        Answer::Tokens(n) => {
+        Ok(n) => {
             header(0, 0, n);
             show(t, n);
         }
-        Answer::Refused { number, place } => header(number, place, 0),
+        Err(Refused { number, place }) => header(number, place, 0),
     }
 }
 
@@ -118,18 +118,13 @@ fn room_of(hex: &[u8]) {
     let mut script = [0u8; 64];
     let n = hex_text::unhex(hex, &mut script);
     match lex::room(&script[..n]) {
-        Ample::Sizes {
-            tokens,
-            nodes,
-            keys,
-            work,
-        } => {
-            header(0, 0, tokens);
-            header(0, nodes, keys);
-            io::print_hex(1, work as u64, 8);
+        Ok(sizes) => {
+            header(0, 0, sizes.tokens);
+            header(0, sizes.nodes, sizes.keys);
+            io::print_hex(1, sizes.work as u64, 8);
             line();
         }
-        Ample::Refused { number, place } => header(number, place, 0),
+        Err(Refused { number, place }) => header(number, place, 0),
     }
 }
 
