@@ -8,6 +8,7 @@ ghost use Rattle.standard.specs.Rows.{row_of};
 ghost use Rattle.row.specs.Tokens.{InTable, lexemes_left};
 ghost use Rattle.row.specs.Request.{reading_asked, entry_of, counted, reading_of};
 ghost use Rattle.row.specs.Told.{Told, ToldEntry, ToldAndV};
+ghost use Rattle.rows.specs.Ends.{ends_and_v};
 ghost use Rattle.rows.specs.Thresh.{thresh_row};
 
 use branches::{end_if, end_if_else, end_if_not_if};
@@ -46,6 +47,13 @@ fn prefix(tokens: &[u32], left: usize, code: u32, kind: u32) -> Result<Found, Re
     ask(Row::Reduce1(kind), token.left)
 }
 
+// If, NotIf, Else, ToAltStack, Swap.
+fn ends_and_v(code: u32) -> bool
+    ensures { result ≡ ends_and_v code }
+{
+    matches!(code, IF | NOT_IF | ELSE | TO_ALT_STACK | SWAP)
+}
+
 // Whether an and_v goes on: no at the script's start and before If, NotIf, Else, ToAltStack, Swap, else yes.
 pub fn is_and_v(tokens: &[u32], left: usize) -> bool
     requires { InTable tokens.now left }
@@ -54,14 +62,7 @@ pub fn is_and_v(tokens: &[u32], left: usize) -> bool
     let Some(code) = peek(tokens, left) else {
         return false;
     };
-    match code {
-        IF => false,
-        NOT_IF => false,
-        ELSE => false,
-        TO_ALT_STACK => false,
-        SWAP => false,
-        _ => true,
-    }
+    !ends_and_v(code)
 }
 
 fn maybe_and_v(tokens: &[u32], left: usize) -> Result<Found, Refused>
