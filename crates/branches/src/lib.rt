@@ -3,77 +3,68 @@
 #![tactic(auto)]
 
 ghost use Rattle.standard.specs.Rows as point;
-ghost use Rattle.row.specs.Tokens.{InTable};
 ghost use Rattle.row.specs.Told.{Told};
 
 use row::token::{DUP, ELSE, IF, IF_DUP, NOT_IF, SIZE, ZERO_NOT_EQUAL};
-use row::{Found, NonTerm, Refused, Row, ask, kind, next, refuse, un_next};
+use row::{Found, NonTerm, Refused, Row, Tokens, ask, kind};
 
 // ZERONOTEQUAL IF .. ENDIF, and before it SIZE: j:.
-fn after_if_zero_not_equal(tokens: &[u32], left: usize) -> Result<Found, Refused>
-    requires { InTable tokens.now left }
-    ensures { Told point.afterIfZeroNotEqual tokens.now left result }
+fn after_if_zero_not_equal(tokens: Tokens) -> Result<Found, Refused>
+    ensures { Told point.afterIfZeroNotEqual tokens.entry result }
 {
-    let token = next(tokens, left)?;
+    let token = tokens.next()?;
     match token.code {
-        SIZE => ask(Row::Enter1(NonTerm::NonZero), token.left),
-        _ => refuse(10, token.left),
+        SIZE => token.ask(Row::Enter1(NonTerm::NonZero)),
+        _ => token.refuse(10),
     }
 }
 
 // IF .. ENDIF: d: or j:.
-fn after_if(tokens: &[u32], left: usize) -> Result<Found, Refused>
-    requires { InTable tokens.now left }
-    ensures { Told point.afterIf tokens.now left result }
+fn after_if(tokens: Tokens) -> Result<Found, Refused>
+    ensures { Told point.afterIf tokens.entry result }
 {
-    let token = next(tokens, left)?;
+    let token = tokens.next()?;
     match token.code {
-        DUP => ask(Row::Enter1(NonTerm::DupIf), token.left),
-        ZERO_NOT_EQUAL => after_if_zero_not_equal(tokens, token.left),
-        _ => refuse(10, token.left),
+        DUP => token.ask(Row::Enter1(NonTerm::DupIf)),
+        ZERO_NOT_EQUAL => after_if_zero_not_equal(token.rest),
+        _ => token.refuse(10),
     }
 }
 
-pub fn end_if(tokens: &[u32], left: usize) -> Result<Found, Refused>
-    requires { InTable tokens.now left }
-    ensures { Told point.inEndIf tokens.now left result }
+pub fn end_if(tokens: Tokens) -> Result<Found, Refused>
+    ensures { Told point.inEndIf tokens.entry result }
 {
-    let token = next(tokens, left)?;
+    let token = tokens.next()?;
     match token.code {
-        ELSE => ask(
-            Row::Enter3(NonTerm::EndIfElse, NonTerm::MaybeAndV, NonTerm::Expression),
-            token.left,
-        ),
-        IF => after_if(tokens, token.left),
-        NOT_IF => ask(Row::Enter1(NonTerm::EndIfNotIf), token.left),
-        _ => refuse(10, token.left),
+        ELSE => token.ask(Row::Enter3(NonTerm::EndIfElse, NonTerm::MaybeAndV, NonTerm::Expression)),
+        IF => after_if(token.rest),
+        NOT_IF => token.ask(Row::Enter1(NonTerm::EndIfNotIf)),
+        _ => token.refuse(10),
     }
 }
 
 // NOTIF .. ENDIF: or_d after IFDUP, else or_c.
-pub fn end_if_not_if(tokens: &[u32], left: usize) -> Result<Found, Refused>
-    requires { InTable tokens.now left }
-    ensures { Told point.inEndIfNotIf tokens.now left result }
+pub fn end_if_not_if(tokens: Tokens) -> Result<Found, Refused>
+    ensures { Told point.inEndIfNotIf tokens.entry result }
 {
-    let token = next(tokens, left)?;
+    let token = tokens.next()?;
     match token.code {
-        IF_DUP => ask(Row::Enter2(NonTerm::OrD, NonTerm::Expression), token.left),
+        IF_DUP => token.ask(Row::Enter2(NonTerm::OrD, NonTerm::Expression)),
         _ => ask(
             Row::Enter2(NonTerm::OrC, NonTerm::Expression),
-            un_next(tokens, token.left),
+            token.un_next(),
         ),
     }
 }
 
 // ELSE .. ENDIF: or_i after IF, and_or after NOTIF.
-pub fn end_if_else(tokens: &[u32], left: usize) -> Result<Found, Refused>
-    requires { InTable tokens.now left }
-    ensures { Told point.inEndIfElse tokens.now left result }
+pub fn end_if_else(tokens: Tokens) -> Result<Found, Refused>
+    ensures { Told point.inEndIfElse tokens.entry result }
 {
-    let token = next(tokens, left)?;
+    let token = tokens.next()?;
     match token.code {
-        IF => ask(Row::Reduce2(kind::OR_I), token.left),
-        NOT_IF => ask(Row::Enter2(NonTerm::Tern, NonTerm::Expression), token.left),
-        _ => refuse(10, token.left),
+        IF => token.ask(Row::Reduce2(kind::OR_I)),
+        NOT_IF => token.ask(Row::Enter2(NonTerm::Tern, NonTerm::Expression)),
+        _ => token.refuse(10),
     }
 }

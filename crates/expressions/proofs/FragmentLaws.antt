@@ -5,7 +5,7 @@ use mathlib.Core.List.{List, [], ◌∷◌}
 use Prim.Native.Nat.{ℕ, ◌+◌}
 use lib.Dec.{eqb}
 use borrow.Author.Tests.{ne_eqb, eqb-true, eqb-false}
-use Rattle.std.specs.Prelude.{Result, Ok}
+use Rattle.std.specs.Prelude.{Result}
 use Rattle.tables.specs.Choose.{pick}
 use Rattle.lex.specs.Token.{data_at, data_length, num}
 use Rattle.standard.specs.Tree.{key, True, False}
@@ -15,7 +15,8 @@ use Rattle.row.specs.declared.Row.TheVariants as row
 use Rattle.row.specs.declared.Found.{Found}
 use Rattle.row.specs.declared.Refused.{Refused}
 use Rattle.row.specs.declared.Taken.{Taken}
-use Rattle.row.specs.Tokens.{lexemes_left, taken_of}
+use Rattle.row.specs.Tokens.{lexemes_left}
+use Rattle.row.specs.Next.{IsTaken}
 use Rattle.row.specs.Request.{refused, leaf_node, reading, asked_at, refused_at, reading_of}
 use Rattle.row.specs.Told.{row_from}
 use Rattle.row.proofs.LookLaws.{lexeme_by, length_by, Rest, None, none_of, look_missed}
@@ -46,28 +47,28 @@ key_alone segwit script table code place left k c e =
     ∙ ap (λ (i : ℕ). reading (pick (key_form segwit (key_at script i (place + 1))) (leaf_node 3 0 (place + 1) []) (refused 11)) (lexemes_left script table left)) c
 
 -- a token of none of the other arms: it enters entries, or fits no case
-pub fragment_is : (segwit : Bool) (script table : List ℕ) (left : ℕ) {t : Result Taken Refused} {k : Taken} → t ≡ taken_of table left → t ≡ Ok k → {r : Result Found Refused} → Rest k.code (Unit {0}) (31 ∷ 32 ∷ 30 ∷ 23 ∷ 9 ∷ 10 ∷ 4 ∷ 28 ∷ 8 ∷ 5 ∷ []) → r ≡ fragment_row k.code k.left → reading_of script table r ≡ row_from segwit inExpression script table left
-fragment_is segwit script table left {k = k} e f {r = r} x h = by (eqb k.code 6) (eqb k.code 20) (eqb k.code 19) (eqb k.code 1) (eqb k.code 2) refl refl refl refl refl
+pub fragment_is : (segwit : Bool) (script table : List ℕ) (left : ℕ) {k : Taken} → IsTaken table left k → {r : Result Found Refused} → Rest k.code (Unit {0}) (31 ∷ 32 ∷ 30 ∷ 23 ∷ 9 ∷ 10 ∷ 4 ∷ 28 ∷ 8 ∷ 5 ∷ []) → r ≡ fragment_row k.code k.rest.left → reading_of script table r ≡ row_from segwit inExpression script table left
+fragment_is segwit script table left {k} t {r} x h = by (eqb k.code 6) (eqb k.code 20) (eqb k.code 19) (eqb k.code 1) (eqb k.code 2) refl refl refl refl refl
   where
     m : None k.code (31 ∷ 32 ∷ 30 ∷ 23 ∷ 9 ∷ 10 ∷ 4 ∷ 28 ∷ 8 ∷ 5 ∷ [])
     m = none_of k.code (31 ∷ 32 ∷ 30 ∷ 23 ∷ 9 ∷ 10 ∷ 4 ∷ 28 ∷ 8 ∷ 5 ∷ []) x
 
-    to : (code : ℕ) → k.code ≡ code → reading_of script table r ≡ reading_of script table (fragment_row code k.left)
-    to code q = ap (reading_of script table) (h ∙ ap (λ (i : ℕ). fragment_row i k.left) q)
+    to : (code : ℕ) → k.code ≡ code → reading_of script table r ≡ reading_of script table (fragment_row code k.rest.left)
+    to code q = ap (reading_of script table) (h ∙ ap (λ (i : ℕ). fragment_row i k.rest.left) q)
 
     unfit : (k.code ≡ 6 → ⊥) → (k.code ≡ 20 → ⊥) → (k.code ≡ 19 → ⊥) → (k.code ≡ 1 → ⊥) → (k.code ≡ 2 → ⊥) → reading_of script table r ≡ row_from segwit inExpression script table left
     unfit u v w y z =
-        ap (reading_of script table) (h ∙ sym (no_fragment k.code k.left (((((tt, u), v), w), y), z)))
-        ∙ took segwit inExpression script table left e f
-        (ap (λ (a : Act). led segwit inExpression script table a (lexeme_by script k.code k.number k.place) k.left)
+        ap (reading_of script table) (h ∙ sym (no_fragment k.code k.rest.left (((((tt, u), v), w), y), z)))
+        ∙ took segwit inExpression script table left t
+        (ap (λ (a : Act). led segwit inExpression script table a (lexeme_by script k.code k.number k.place) k.rest.left)
         (sym
         (look_missed script k.code k.number k.place (cases segwit inExpression) [] tt
         (m.0, (m.1.0, (m.1.1.0, (u, (m.1.1.1.0, (v, (m.1.1.1.1.0, (m.1.1.1.1.1.0, (m.1.1.1.1.1.1.0, (m.1.1.1.1.1.1.1.0, (m.1.1.1.1.1.1.1.0, (w, (y, (z, m.1.1.1.1.1.1.1.1)))))))))))))))))
 
     by : (b1 b2 b3 b4 b5 : Bool) → eqb k.code 6 ≡ b1 → eqb k.code 20 ≡ b2 → eqb k.code 19 ≡ b3 → eqb k.code 1 ≡ b4 → eqb k.code 2 ≡ b5 → reading_of script table r ≡ row_from segwit inExpression script table left
-    by true b2 b3 b4 b5 u v w y z = arm segwit inExpression script table left e f 6 (eqb-true k.code 6 u) (to 6 (eqb-true k.code 6 u))
-    by false true b3 b4 b5 u v w y z = arm segwit inExpression script table left e f 20 (eqb-true k.code 20 v) (to 20 (eqb-true k.code 20 v))
-    by false false true b4 b5 u v w y z = arm segwit inExpression script table left e f 19 (eqb-true k.code 19 w) (to 19 (eqb-true k.code 19 w))
-    by false false false true b5 u v w y z = arm segwit inExpression script table left e f 1 (eqb-true k.code 1 y) (to 1 (eqb-true k.code 1 y))
-    by false false false false true u v w y z = arm segwit inExpression script table left e f 2 (eqb-true k.code 2 z) (to 2 (eqb-true k.code 2 z))
+    by true b2 b3 b4 b5 u v w y z = arm segwit inExpression script table left t 6 (eqb-true k.code 6 u) (to 6 (eqb-true k.code 6 u))
+    by false true b3 b4 b5 u v w y z = arm segwit inExpression script table left t 20 (eqb-true k.code 20 v) (to 20 (eqb-true k.code 20 v))
+    by false false true b4 b5 u v w y z = arm segwit inExpression script table left t 19 (eqb-true k.code 19 w) (to 19 (eqb-true k.code 19 w))
+    by false false false true b5 u v w y z = arm segwit inExpression script table left t 1 (eqb-true k.code 1 y) (to 1 (eqb-true k.code 1 y))
+    by false false false false true u v w y z = arm segwit inExpression script table left t 2 (eqb-true k.code 2 z) (to 2 (eqb-true k.code 2 z))
     by false false false false false u v w y z = unfit (eqb-false k.code 6 u) (eqb-false k.code 20 v) (eqb-false k.code 19 w) (eqb-false k.code 1 y) (eqb-false k.code 2 z)

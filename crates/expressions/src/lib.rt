@@ -4,9 +4,7 @@
 
 ghost use Rattle.std.specs.Prelude.{◌≡◌};
 ghost use Rattle.standard.specs.Rows as point;
-ghost use Rattle.row.specs.Tokens.{InTable};
-ghost use Rattle.row.specs.Request.{reading_of};
-ghost use Rattle.row.specs.Told.{row_from, Told};
+ghost use Rattle.row.specs.Told.{Told, ToldBy};
 ghost use Rattle.expressions.specs.Fragments.{fragment_row, number_row};
 
 use locks::{
@@ -19,64 +17,55 @@ use row::token::{
     CHECK_SEQUENCE_VERIFY, CHECK_SIG, END_IF, EQUAL, HASH20, NUM, NUM_EQUAL, VERIFY,
     ZERO_NOT_EQUAL,
 };
-use row::{Found, NonTerm, Refused, Row, ask, kind, next, refuse, un_next};
+use row::{Found, NonTerm, Refused, Row, Tokens, ask, kind, refuse};
 
 // EQUAL VERIFY: a hash lock or a raw key hash, or a thresh under v:.
-fn after_verify_equal(tokens: &[u32], left: usize) -> Result<Found, Refused>
-    requires { InTable tokens.now left }
-    ensures { Told point.afterVerifyEqual tokens.now left result }
+fn after_verify_equal(tokens: Tokens) -> Result<Found, Refused>
+    ensures { Told point.afterVerifyEqual tokens.entry result }
 {
-    let token = next(tokens, left)?;
+    let token = tokens.next()?;
     match token.code {
-        HASH20 => after_verify_equal_hash20(tokens, token.left, token.place + 1),
-        BYTES32 => after_bytes32(tokens, token.left, true, token.place + 1),
-        NUM => ask(
-            Row::Enter2(
-                NonTerm::Verify,
-                NonTerm::ThreshW {
-                    k: token.number,
-                    n: 0,
-                },
-            ),
-            token.left,
-        ),
-        _ => refuse(10, token.left),
+        HASH20 => after_verify_equal_hash20(token.rest, token.place + 1),
+        BYTES32 => after_bytes32(token.rest, true, token.place + 1),
+        NUM => token.ask(Row::Enter2(
+            NonTerm::Verify,
+            NonTerm::ThreshW {
+                k: token.number,
+                n: 0,
+            },
+        )),
+        _ => token.refuse(10),
     }
 }
 
 // VERIFY.
-fn after_verify(tokens: &[u32], left: usize) -> Result<Found, Refused>
-    requires { InTable tokens.now left }
-    ensures { Told point.afterVerify tokens.now left result }
+fn after_verify(tokens: Tokens) -> Result<Found, Refused>
+    ensures { Told point.afterVerify tokens.entry result }
 {
-    let token = next(tokens, left)?;
+    let token = tokens.next()?;
     match token.code {
-        EQUAL => after_verify_equal(tokens, token.left),
+        EQUAL => after_verify_equal(token.rest),
         _ => ask(
             Row::Enter2(NonTerm::Verify, NonTerm::Expression),
-            un_next(tokens, token.left),
+            token.un_next(),
         ),
     }
 }
 
 // EQUAL: a hash lock or a thresh.
-fn after_equal(tokens: &[u32], left: usize) -> Result<Found, Refused>
-    requires { InTable tokens.now left }
-    ensures { Told point.afterEqual tokens.now left result }
+fn after_equal(tokens: Tokens) -> Result<Found, Refused>
+    ensures { Told point.afterEqual tokens.entry result }
 {
-    let token = next(tokens, left)?;
+    let token = tokens.next()?;
     match token.code {
-        BYTES32 => after_bytes32(tokens, token.left, false, token.place + 1),
-        HASH20 => after_equal_hash20(tokens, token.left, token.place + 1),
+        BYTES32 => after_bytes32(token.rest, false, token.place + 1),
+        HASH20 => after_equal_hash20(token.rest, token.place + 1),
         // No Expression is entered here: ThreshW looks for ADD.
-        NUM => ask(
-            Row::Enter1(NonTerm::ThreshW {
-                k: token.number,
-                n: 0,
-            }),
-            token.left,
-        ),
-        _ => refuse(10, token.left),
+        NUM => token.ask(Row::Enter1(NonTerm::ThreshW {
+            k: token.number,
+            n: 0,
+        })),
+        _ => token.refuse(10),
     }
 }
 
@@ -123,28 +112,22 @@ fn fragment(code: u32, left: usize) -> Result<Found, Refused>
 }
 
 // The row of Expression.
-pub fn expression(
-    segwit: bool,
-    script: &[u8],
-    tokens: &[u32],
-    left: usize,
-) -> Result<Found, Refused>
-    requires { InTable tokens.now left }
-    ensures { reading_of script.now tokens.now result ≡ row_from segwit point.inExpression script.now tokens.now left }
+pub fn expression(segwit: bool, script: &[u8], tokens: Tokens) -> Result<Found, Refused>
+    ensures { ToldBy segwit point.inExpression script.now tokens.entry result }
 {
-    let token = next(tokens, left)?;
+    let token = tokens.next()?;
     match token.code {
         // An arm each: in one for all three only the codes' range is known, and the proof by the row's cases didn't close.
-        BYTES33 => pk_k(segwit, script, token.code, token.place + 1, token.left),
-        BYTES65 => pk_k(segwit, script, token.code, token.place + 1, token.left),
-        BYTES32 => pk_k(segwit, script, token.code, token.place + 1, token.left),
-        VERIFY => after_verify(tokens, token.left),
-        CHECK_SEQUENCE_VERIFY => after_check_sequence_verify(tokens, token.left),
-        CHECK_LOCK_TIME_VERIFY => after_check_lock_time_verify(tokens, token.left),
-        EQUAL => after_equal(tokens, token.left),
-        NUM => number_alone(token.number, token.left),
-        CHECK_MULTI_SIG => after_check_multi_sig(segwit, script, tokens, token.left),
-        NUM_EQUAL => after_num_equal(segwit, tokens, token.left),
-        _ => fragment(token.code, token.left),
+        BYTES33 => pk_k(segwit, script, token.code, token.place + 1, token.rest.left),
+        BYTES65 => pk_k(segwit, script, token.code, token.place + 1, token.rest.left),
+        BYTES32 => pk_k(segwit, script, token.code, token.place + 1, token.rest.left),
+        VERIFY => after_verify(token.rest),
+        CHECK_SEQUENCE_VERIFY => after_check_sequence_verify(token.rest),
+        CHECK_LOCK_TIME_VERIFY => after_check_lock_time_verify(token.rest),
+        EQUAL => after_equal(token.rest),
+        NUM => number_alone(token.number, token.rest.left),
+        CHECK_MULTI_SIG => after_check_multi_sig(segwit, script, token.rest),
+        NUM_EQUAL => after_num_equal(segwit, token.rest),
+        _ => fragment(token.code, token.rest.left),
     }
 }

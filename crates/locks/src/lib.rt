@@ -8,7 +8,6 @@ ghost use Rattle.standard.specs.Allowed as allowed;
 ghost use Rattle.standard.specs.Allowed.{key_form};
 ghost use Rattle.standard.specs.Rows as point;
 ghost use Rattle.standard.specs.Table.{hash_kind};
-ghost use Rattle.row.specs.Tokens.{InTable};
 ghost use Rattle.row.specs.Request.{hash_of};
 ghost use Rattle.row.specs.Told.{Told, ToldOf};
 ghost use Rattle.locks.specs.Leaves.{key_at, key_row, time_row};
@@ -16,7 +15,7 @@ ghost use Rattle.locks.specs.Leaves.{key_at, key_row, time_row};
 use row::token::{
     BYTES32, BYTES33, DUP, EQUAL, HASH160, HASH256, NUM, RIPEMD160, SHA256, SIZE, VERIFY,
 };
-use row::{Found, Hash, Refused, Row, ask, kind, next, refuse};
+use row::{Found, Hash, Refused, Row, Tokens, ask, kind, refuse};
 
 // The key form: segwit 33 bytes starting 02 or 03; tapscript any 32 bytes.
 pub fn key_form(segwit: bool, script: &[u8], code: u32, offset: u32) -> bool
@@ -78,32 +77,29 @@ fn timelock(kind: u32, n: u32, left: usize) -> Result<Found, Refused>
 }
 
 // The number of older or after, whose opcode is CHECKSEQUENCEVERIFY or CHECKLOCKTIMEVERIFY.
-fn before_timelock(tokens: &[u32], left: usize, kind: u32) -> Result<Found, Refused>
-    requires { InTable tokens.now left }
-    ensures older { kind ≡ 7 → Told point.afterCheckSequenceVerify tokens.now left result }
-    ensures after { kind ≡ 6 → Told point.afterCheckLockTimeVerify tokens.now left result }
+fn before_timelock(tokens: Tokens, kind: u32) -> Result<Found, Refused>
+    ensures older { kind ≡ 7 → Told point.afterCheckSequenceVerify tokens.entry result }
+    ensures after { kind ≡ 6 → Told point.afterCheckLockTimeVerify tokens.entry result }
 {
-    let token = next(tokens, left)?;
+    let token = tokens.next()?;
     match token.code {
-        NUM => timelock(kind, token.number, token.left),
-        _ => refuse(10, token.left),
+        NUM => timelock(kind, token.number, token.rest.left),
+        _ => token.refuse(10),
     }
 }
 
 // older: CHECKSEQUENCEVERIFY, and before it the number.
-pub fn after_check_sequence_verify(tokens: &[u32], left: usize) -> Result<Found, Refused>
-    requires { InTable tokens.now left }
-    ensures { Told point.afterCheckSequenceVerify tokens.now left result }
+pub fn after_check_sequence_verify(tokens: Tokens) -> Result<Found, Refused>
+    ensures { Told point.afterCheckSequenceVerify tokens.entry result }
 {
-    before_timelock(tokens, left, kind::OLDER)
+    before_timelock(tokens, kind::OLDER)
 }
 
 // after: CHECKLOCKTIMEVERIFY, and before it the number.
-pub fn after_check_lock_time_verify(tokens: &[u32], left: usize) -> Result<Found, Refused>
-    requires { InTable tokens.now left }
-    ensures { Told point.afterCheckLockTimeVerify tokens.now left result }
+pub fn after_check_lock_time_verify(tokens: Tokens) -> Result<Found, Refused>
+    ensures { Told point.afterCheckLockTimeVerify tokens.entry result }
 {
-    before_timelock(tokens, left, kind::AFTER)
+    before_timelock(tokens, kind::AFTER)
 }
 
 // The kind of a hash lock.
@@ -120,155 +116,108 @@ fn hash_kind(hash: Hash) -> u32
 
 // Any hash lock is SIZE 32 EQUAL VERIFY, its hash's opcode and the hash; `verify` says whether v: stands over it.
 // SIZE, its first token.
-fn lock_size(
-    tokens: &[u32],
-    left: usize,
-    verify: bool,
-    hash: Hash,
-    offset: u32,
-) -> Result<Found, Refused>
-    requires { InTable tokens.now left }
-    ensures { ToldOf (point.lockSize verify (hash_of hash)) offset tokens.now left result }
+fn lock_size(tokens: Tokens, verify: bool, hash: Hash, offset: u32) -> Result<Found, Refused>
+    ensures { ToldOf (point.lockSize verify (hash_of hash)) offset tokens.entry result }
 {
-    let token = next(tokens, left)?;
+    let token = tokens.next()?;
     match token.code {
-        SIZE => ask(
-            Row::Leaf {
-                kind: hash_kind(hash),
-                number: 0,
-                place: offset,
-                verify,
-            },
-            token.left,
-        ),
-        _ => refuse(10, token.left),
+        SIZE => token.ask(Row::Leaf {
+            kind: hash_kind(hash),
+            number: 0,
+            place: offset,
+            verify,
+        }),
+        _ => token.refuse(10),
     }
 }
 
 // The number 32.
-fn lock_32(
-    tokens: &[u32],
-    left: usize,
-    verify: bool,
-    hash: Hash,
-    offset: u32,
-) -> Result<Found, Refused>
-    requires { InTable tokens.now left }
-    ensures { ToldOf (point.lock32 verify (hash_of hash)) offset tokens.now left result }
+fn lock_32(tokens: Tokens, verify: bool, hash: Hash, offset: u32) -> Result<Found, Refused>
+    ensures { ToldOf (point.lock32 verify (hash_of hash)) offset tokens.entry result }
 {
-    let token = next(tokens, left)?;
+    let token = tokens.next()?;
     match token.code {
         NUM => {
             if token.number == 32 {
-                return lock_size(tokens, token.left, verify, hash, offset);
+                return lock_size(token.rest, verify, hash, offset);
             }
-            refuse(10, token.left)
+            token.refuse(10)
         }
-        _ => refuse(10, token.left),
+        _ => token.refuse(10),
     }
 }
 
 // EQUAL.
-fn lock_equal(
-    tokens: &[u32],
-    left: usize,
-    verify: bool,
-    hash: Hash,
-    offset: u32,
-) -> Result<Found, Refused>
-    requires { InTable tokens.now left }
-    ensures { ToldOf (point.lockEqual verify (hash_of hash)) offset tokens.now left result }
+fn lock_equal(tokens: Tokens, verify: bool, hash: Hash, offset: u32) -> Result<Found, Refused>
+    ensures { ToldOf (point.lockEqual verify (hash_of hash)) offset tokens.entry result }
 {
-    let token = next(tokens, left)?;
+    let token = tokens.next()?;
     match token.code {
-        EQUAL => lock_32(tokens, token.left, verify, hash, offset),
-        _ => refuse(10, token.left),
+        EQUAL => lock_32(token.rest, verify, hash, offset),
+        _ => token.refuse(10),
     }
 }
 
 // VERIFY.
-fn lock_verify(
-    tokens: &[u32],
-    left: usize,
-    verify: bool,
-    hash: Hash,
-    offset: u32,
-) -> Result<Found, Refused>
-    requires { InTable tokens.now left }
-    ensures { ToldOf (point.lockVerify verify (hash_of hash)) offset tokens.now left result }
+fn lock_verify(tokens: Tokens, verify: bool, hash: Hash, offset: u32) -> Result<Found, Refused>
+    ensures { ToldOf (point.lockVerify verify (hash_of hash)) offset tokens.entry result }
 {
-    let token = next(tokens, left)?;
+    let token = tokens.next()?;
     match token.code {
-        VERIFY => lock_equal(tokens, token.left, verify, hash, offset),
-        _ => refuse(10, token.left),
+        VERIFY => lock_equal(token.rest, verify, hash, offset),
+        _ => token.refuse(10),
     }
 }
 
 // EQUAL, or EQUAL VERIFY, and before it 32 bytes.
-pub fn after_bytes32(
-    tokens: &[u32],
-    left: usize,
-    verify: bool,
-    offset: u32,
-) -> Result<Found, Refused>
-    requires { InTable tokens.now left }
-    ensures { ToldOf (point.after_bytes32 verify) offset tokens.now left result }
+pub fn after_bytes32(tokens: Tokens, verify: bool, offset: u32) -> Result<Found, Refused>
+    ensures { ToldOf (point.after_bytes32 verify) offset tokens.entry result }
 {
-    let token = next(tokens, left)?;
+    let token = tokens.next()?;
     match token.code {
-        SHA256 => lock_verify(tokens, token.left, verify, Hash::Sha256, offset),
-        HASH256 => lock_verify(tokens, token.left, verify, Hash::Hash256, offset),
-        _ => refuse(10, token.left),
+        SHA256 => lock_verify(token.rest, verify, Hash::Sha256, offset),
+        HASH256 => lock_verify(token.rest, verify, Hash::Hash256, offset),
+        _ => token.refuse(10),
     }
 }
 
 // EQUAL, and before it 20 bytes.
-pub fn after_equal_hash20(tokens: &[u32], left: usize, offset: u32) -> Result<Found, Refused>
-    requires { InTable tokens.now left }
-    ensures { ToldOf point.afterEqualHash20 offset tokens.now left result }
+pub fn after_equal_hash20(tokens: Tokens, offset: u32) -> Result<Found, Refused>
+    ensures { ToldOf point.afterEqualHash20 offset tokens.entry result }
 {
-    let token = next(tokens, left)?;
+    let token = tokens.next()?;
     match token.code {
-        RIPEMD160 => lock_verify(tokens, token.left, false, Hash::Ripemd160, offset),
-        HASH160 => lock_verify(tokens, token.left, false, Hash::Hash160, offset),
-        _ => refuse(10, token.left),
+        RIPEMD160 => lock_verify(token.rest, false, Hash::Ripemd160, offset),
+        HASH160 => lock_verify(token.rest, false, Hash::Hash160, offset),
+        _ => token.refuse(10),
     }
 }
 
 // HASH160, 20 bytes, EQUAL and VERIFY: a raw key hash, or a hash lock under v:.
-fn after_verify_equal_hash20_hash160(
-    tokens: &[u32],
-    left: usize,
-    offset: u32,
-) -> Result<Found, Refused>
-    requires { InTable tokens.now left }
-    ensures { ToldOf point.afterVerifyEqualHash20Hash160 offset tokens.now left result }
+fn after_verify_equal_hash20_hash160(tokens: Tokens, offset: u32) -> Result<Found, Refused>
+    ensures { ToldOf point.afterVerifyEqualHash20Hash160 offset tokens.entry result }
 {
-    let token = next(tokens, left)?;
+    let token = tokens.next()?;
     match token.code {
-        DUP => ask(
-            Row::Leaf {
-                kind: kind::RAW_PK_H,
-                number: 0,
-                place: offset,
-                verify: false,
-            },
-            token.left,
-        ),
-        VERIFY => lock_equal(tokens, token.left, true, Hash::Hash160, offset),
-        _ => refuse(10, token.left),
+        DUP => token.ask(Row::Leaf {
+            kind: kind::RAW_PK_H,
+            number: 0,
+            place: offset,
+            verify: false,
+        }),
+        VERIFY => lock_equal(token.rest, true, Hash::Hash160, offset),
+        _ => token.refuse(10),
     }
 }
 
 // EQUAL VERIFY, and before it 20 bytes.
-pub fn after_verify_equal_hash20(tokens: &[u32], left: usize, offset: u32) -> Result<Found, Refused>
-    requires { InTable tokens.now left }
-    ensures { ToldOf point.afterVerifyEqualHash20 offset tokens.now left result }
+pub fn after_verify_equal_hash20(tokens: Tokens, offset: u32) -> Result<Found, Refused>
+    ensures { ToldOf point.afterVerifyEqualHash20 offset tokens.entry result }
 {
-    let token = next(tokens, left)?;
+    let token = tokens.next()?;
     match token.code {
-        HASH160 => after_verify_equal_hash20_hash160(tokens, token.left, offset),
-        RIPEMD160 => lock_verify(tokens, token.left, true, Hash::Ripemd160, offset),
-        _ => refuse(10, token.left),
+        HASH160 => after_verify_equal_hash20_hash160(token.rest, offset),
+        RIPEMD160 => lock_verify(token.rest, true, Hash::Ripemd160, offset),
+        _ => token.refuse(10),
     }
 }

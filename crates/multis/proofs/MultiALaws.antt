@@ -1,6 +1,6 @@
 -- The keys of a multi_a: the loop over those with CHECKSIGADD, the one with CHECKSIG, and k and n behind them. Assumes nothing.
 -- Why: with n keys read, from the token `left` on, the row from there is that of the first point; a CHECKSIGADD and a key that passes lead from one such state to the next.
-use mathlib.Core.Path.{◌≡◌, refl, sym, ap, subst, ◌∙◌}
+use mathlib.Core.Path.{◌≡◌, refl, sym, ap, ◌∙◌}
 use mathlib.Core.Bool.{Bool, true, false, ◌&&◌, not, false≢true}
 use mathlib.Core.List.{List, [], ◌∷◌}
 use Prim.Native.Nat.{ℕ, zero, suc, ◌+◌, ◌*◌, ◌≤◌, ◌<◌}
@@ -8,7 +8,7 @@ use native.Mathlib.Omega.{arith}
 use lib.ListN.{length, get_or}
 use lib.Dec.{eqb, leb}
 use borrow.Author.Tests.{le-leb, eqb-true, eqb-false, not-false}
-use Rattle.std.specs.Prelude.{Option, None, Some, Result, Ok, Err}
+use Rattle.std.specs.Prelude.{Result, Ok, Err}
 use Rattle.tables.specs.Choose.{pick}
 use Rattle.lex.specs.Token.{Data, data_at, push, CHECKSIGADD, BYTES32}
 use Rattle.standard.specs.Tree.{MultiA}
@@ -20,10 +20,12 @@ use Rattle.row.specs.declared.Row.TheVariants as row
 use Rattle.row.specs.declared.Found.{Found}
 use Rattle.row.specs.declared.Refused.{Refused}
 use Rattle.row.specs.declared.Taken.{Taken}
-use Rattle.row.specs.Tokens.{token_at, lexemes_left, taken_of, ahead_of, InTable}
+use Rattle.row.specs.declared.table.Tokens.{Tokens}
+use Rattle.row.specs.Next.{IsTaken}
+use Rattle.row.specs.Tokens.{token_at, lexemes_left, ahead_of}
 use Rattle.row.specs.Request.{Request, Reading, refused, keys_node, reading, asked, offsets_from, refused_at, reading_of}
 use Rattle.row.specs.Told.{row_from}
-use Rattle.row.proofs.TakenLaws.{row_pick, left_is, led, dry, arm, onward, unfit}
+use Rattle.row.proofs.TakenLaws.{row_pick, led, dry, arm, arm_at, onward_at, unfit_at}
 use Rattle.multis.specs.Keys.{datas_from, is_check_sig_add, added_refusal, left_behind, added_key_of, multi_a_row, ToldMultiA}
 
 -- the keys, as the row hands them on
@@ -60,51 +62,38 @@ all_passed script table k n i l h o e =
     decided t false m p q = absurd (false≢true p)
 
 -- CHECKSIG was taken, and a push of 32 bytes before it
-module _ (segwit : Bool) (script table : List ℕ) (left k n : ℕ) {t : Result Taken Refused} {j : Taken} (e : t ≡ taken_of table left) (f : t ≡ Ok j) (q : j.code ≡ BYTES32) where
-  pub first_in_segwit : {r : Result Found Refused} → segwit ≡ true → r ≡ refused_at 11 j.left → reading_of script table r ≡ row_from segwit (afterCheckSig k (datas_from script table n (left + 1))) script table left
+module _ (segwit : Bool) (script table : List ℕ) (left k n : ℕ) {j : Taken} (t : IsTaken table left j) (q : j.code ≡ BYTES32) where
+  pub first_in_segwit : {r : Result Found Refused} → segwit ≡ true → r ≡ refused_at 11 j.rest.left → reading_of script table r ≡ row_from segwit (afterCheckSig k (datas_from script table n (left + 1))) script table left
   first_in_segwit g s =
-      arm segwit (afterCheckSig k (datas_from script table n (left + 1))) script table left e f BYTES32 q
+      arm segwit (afterCheckSig k (datas_from script table n (left + 1))) script table left t BYTES32 q
       (ap (reading_of script table) s
-      ∙ ap (λ (b : Bool). led segwit (afterCheckSig k (datas_from script table n (left + 1))) script table (pick (allowed.multi_a_key b (data_at script (j.place + 1) 32)) (make (MultiA k (data_at script (j.place + 1) 32) (datas_from script table n (left + 1))) []) (refuse 11)) (push BYTES32 (data_at script (j.place + 1) 32)) j.left) (sym g))
+      ∙ ap (λ (b : Bool). led segwit (afterCheckSig k (datas_from script table n (left + 1))) script table (pick (allowed.multi_a_key b (data_at script (j.place + 1) 32)) (make (MultiA k (data_at script (j.place + 1) 32) (datas_from script table n (left + 1))) []) (refuse 11)) (push BYTES32 (data_at script (j.place + 1) 32)) j.rest.left) (sym g))
 
-  pub first_in_tapscript : {r : Result Found Refused} → segwit ≡ false → 1 ≤ k → k ≤ 999 → allowed.all_multi_a_keys segwit (datas_from script table n (left + 1)) ≡ true → r ≡ multi_a_row k (n + 1) j.left → reading_of script table r ≡ row_from segwit (afterCheckSig k (datas_from script table n (left + 1))) script table left
+  pub first_in_tapscript : {r : Result Found Refused} → segwit ≡ false → 1 ≤ k → k ≤ 999 → allowed.all_multi_a_keys segwit (datas_from script table n (left + 1)) ≡ true → r ≡ multi_a_row k (n + 1) j.rest.left → reading_of script table r ≡ row_from segwit (afterCheckSig k (datas_from script table n (left + 1))) script table left
   first_in_tapscript {r} g l h o s =
-      arm segwit (afterCheckSig k (datas_from script table n (left + 1))) script table left e f BYTES32 q
-      (all_passed script table k n j.left l h
+      arm segwit (afterCheckSig k (datas_from script table n (left + 1))) script table left t BYTES32 q
+      (all_passed script table k n j.rest.left l h
       (ap (λ (i : ℕ). allowed.all_multi_a_keys false (datas_from script table n i)) two ∙ ap (λ (b : Bool). allowed.all_multi_a_keys b (datas_from script table n (left + 1))) (sym g) ∙ o)
-      (s ∙ ap (λ (i : ℕ). multi_a_row k i j.left) one)
-      ∙ ap (λ (i : ℕ). reading (asked false (makes (MultiA k (data_at script ((token_at table j.left).place + 1) 32) (datas_from script table n i)) [])) (lexemes_left script table j.left)) two
-      ∙ ap (λ (x : ℕ). reading (asked false (makes (MultiA k (data_at script (x + 1) 32) (datas_from script table n (left + 1))) [])) (lexemes_left script table j.left)) place_is
-      ∙ ap (λ (b : Bool). led b (afterCheckSig k (datas_from script table n (left + 1))) script table (pick (allowed.multi_a_key b (data_at script (j.place + 1) 32)) (make (MultiA k (data_at script (j.place + 1) 32) (datas_from script table n (left + 1))) []) (refuse 11)) (push BYTES32 (data_at script (j.place + 1) 32)) j.left) (sym g))
+      (s ∙ ap (λ (i : ℕ). multi_a_row k i j.rest.left) one)
+      ∙ ap (λ (i : ℕ). reading (asked false (makes (MultiA k (data_at script ((token_at table j.rest.left).place + 1) 32) (datas_from script table n i)) [])) (lexemes_left script table j.rest.left)) two
+      ∙ ap (λ (x : ℕ). reading (asked false (makes (MultiA k (data_at script (x + 1) 32) (datas_from script table n (left + 1))) [])) (lexemes_left script table j.rest.left)) place_is
+      ∙ ap (λ (b : Bool). led b (afterCheckSig k (datas_from script table n (left + 1))) script table (pick (allowed.multi_a_key b (data_at script (j.place + 1) 32)) (make (MultiA k (data_at script (j.place + 1) 32) (datas_from script table n (left + 1))) []) (refuse 11)) (push BYTES32 (data_at script (j.place + 1) 32)) j.rest.left) (sym g))
     where
       one : n + 1 ≡ suc n
       one = omega arith
 
-      two : suc (suc j.left) ≡ left + 1
-      two = omega (arith, left_is table left e f)
+      two : suc (suc j.rest.left) ≡ left + 1
+      two = omega (arith, t.left_is)
 
-      place_in : Result Taken Refused → ℕ
-      place_in (Ok i) = i.place
-      place_in (Err none) = 0
-
-      place_is : (token_at table j.left).place ≡ j.place
-      place_is = ap place_in (ap (taken_of table) (left_is table left e f) ∙ sym e ∙ f)
+      place_is : (token_at table j.rest.left).place ≡ j.place
+      place_is = sym t.place
 
 -- the token looked at is the one that is taken
-abbrev code_ahead : Result Taken Refused → Option ℕ
-code_ahead (Ok j) = Some j.code
-code_ahead (Err none) = None
+pub not_added : (table : List ℕ) (left : ℕ) {j : Taken} → IsTaken table left j → is_check_sig_add (ahead_of table left) ≡ false → j.code ≡ CHECKSIGADD → ⊥
+not_added table left {j} t h = eqb-false j.code CHECKSIGADD (ap (λ (c : ℕ). eqb c CHECKSIGADD) t.code ∙ ap (λ (m : ℕ). is_check_sig_add (ahead_of table m)) t.left_is ∙ h)
 
-ahead_taken : (table : List ℕ) (left : ℕ) → code_ahead (taken_of table left) ≡ ahead_of table left
-ahead_taken table zero = refl
-ahead_taken table (suc rest) = refl
-
-pub not_added : (table : List ℕ) (left : ℕ) {t : Result Taken Refused} {j : Taken} → t ≡ taken_of table left → t ≡ Ok j → is_check_sig_add (ahead_of table left) ≡ false → j.code ≡ CHECKSIGADD → ⊥
-not_added table left {j = j} e f h = eqb-false j.code CHECKSIGADD (ap is_check_sig_add (sym (ap code_ahead (sym e ∙ f)) ∙ ahead_taken table left) ∙ h)
-
--- the loop: n keys are read, from the token `left` on
+-- n keys are read, from the token `left` on
 pub record KeysAdded (segwit : Bool) (table : List ℕ) (from k left n : ℕ) : Type 0 where
-  pub tokens : InTable table left
   pub few : n + left < 2147483648
   pub passed : (script : List ℕ) → allowed.all_multi_a_keys segwit (datas_from script table n left) ≡ true
   pub same : (script : List ℕ) → row_from segwit (multiAKeys k (datas_from script table n left)) script table left ≡ row_from segwit (multiAKeys k []) script table from
@@ -131,17 +120,17 @@ module _ (segwit : Bool) (table : List ℕ) (k : ℕ) where
       by true false = refl
       by false g = refl
 
-  pub key_refused : (script : List ℕ) (left : ℕ) (ds : List Data) {r : Result ℕ Refused} {none : Refused} → is_check_sig_add (ahead_of table left) ≡ true → r ≡ added_key_of segwit table left → r ≡ Err none → reading_of script table (Err none) ≡ row_from segwit (multiAKeys k ds) script table left
-  key_refused script zero ds a e h = absurd (false≢true a)
-  key_refused script (suc zero) ds a e h =
-      ap refusal_in (sym h ∙ e)
-      ∙ onward segwit (multiAKeys k ds) script table 1 refl refl CHECKSIGADD (afterCheckSigAdd k ds) (eqb-true (code 0) CHECKSIGADD a) refl (dry segwit (afterCheckSigAdd k ds) script table 0 refl (Err (record { number = 9; left = 0 })) refl refl)
+  pub key_refused : (script : List ℕ) (left : ℕ) (ds : List Data) {none : Refused} → is_check_sig_add (ahead_of table left) ≡ true → added_key_of segwit table left ≡ Err none → reading_of script table (Err none) ≡ row_from segwit (multiAKeys k ds) script table left
+  key_refused script zero ds a h = absurd (false≢true a)
+  key_refused script (suc zero) ds a h =
+      ap refusal_in (sym h)
+      ∙ onward_at segwit (multiAKeys k ds) script table (token_at table 0) 0 1 refl refl CHECKSIGADD (afterCheckSigAdd k ds) (eqb-true (code 0) CHECKSIGADD a) refl (dry segwit (afterCheckSigAdd k ds) script table 0 (Err (record { number = 9; left = 0 })) (refl, refl) refl)
     where
       refusal_in : Result ℕ Refused → Reading
       refusal_in (Ok i) = reading (refused 0) []
       refusal_in (Err x) = reading_of script table (Err x)
-  key_refused script (suc (suc m)) ds {none = none} a e h =
-      onward segwit (multiAKeys k ds) script table (suc (suc m)) refl refl CHECKSIGADD (afterCheckSigAdd k ds) (eqb-true (code (suc m)) CHECKSIGADD a) refl (by (eqb (code m) BYTES32) segwit refl refl)
+  key_refused script (suc (suc m)) ds {none = none} a h =
+      onward_at segwit (multiAKeys k ds) script table (token_at table (suc m)) (suc m) (suc (suc m)) refl refl CHECKSIGADD (afterCheckSigAdd k ds) (eqb-true (code (suc m)) CHECKSIGADD a) refl (by (eqb (code m) BYTES32) segwit refl refl)
     where
       its : Result ℕ Refused
       its = added_key_of segwit table (suc (suc m))
@@ -153,43 +142,40 @@ module _ (segwit : Bool) (table : List ℕ) (k : ℕ) where
       by : (b g : Bool) → eqb (code m) BYTES32 ≡ b → segwit ≡ g → reading_of script table (Err none) ≡ row_from segwit (afterCheckSigAdd k ds) script table (suc m)
       by true true d g =
           let x : its ≡ Err (record { number = 11; left = m }) = key_said m true true d g in
-          arm segwit (afterCheckSigAdd k ds) script table (suc m) refl refl BYTES32 (eqb-true (code m) BYTES32 d)
-          (ap refusal_in (sym h ∙ e ∙ x)
+          arm_at segwit (afterCheckSigAdd k ds) script table (token_at table m) m (suc m) refl refl BYTES32 (eqb-true (code m) BYTES32 d)
+          (ap refusal_in (sym h ∙ x)
           ∙ ap (λ (b : Bool). led segwit (afterCheckSigAdd k ds) script table (pick (allowed.multi_a_key b (data_at script ((token_at table m).place + 1) 32)) (read_on (multiAKeys k (data_at script ((token_at table m).place + 1) 32 ∷ ds))) (refuse 11)) (push BYTES32 (data_at script ((token_at table m).place + 1) 32)) m) (sym g))
-      by true false d g = let x : its ≡ Ok m = key_said m true false d g in let y : Ok m ≡ Err none = sym x ∙ sym e ∙ h in cc
+      by true false d g = let x : its ≡ Ok m = key_said m true false d g in let y : Ok m ≡ Err none = sym x ∙ h in cc
       by false g d q =
           let x : its ≡ Err (record { number = 10; left = m }) = key_said m false g d q in
-          ap refusal_in (sym h ∙ e ∙ x)
-          ∙ unfit segwit (afterCheckSigAdd k ds) script table (suc m) refl refl tt refl (tt, eqb-false (code m) BYTES32 d) refl
+          ap refusal_in (sym h ∙ x)
+          ∙ unfit_at segwit (afterCheckSigAdd k ds) script table (token_at table m) m (suc m) refl refl tt refl (tt, eqb-false (code m) BYTES32 d) refl
 
-  pub again : (from left n rest : ℕ) {r : Result ℕ Refused} → KeysAdded segwit table from k left n → is_check_sig_add (ahead_of table left) ≡ true → r ≡ added_key_of segwit table left → r ≡ Ok rest → KeysAdded segwit table from k rest (n + 1)
-  again from zero n rest s a e z = absurd (false≢true a)
-  again from (suc zero) n rest s a e z = absurd (clash (sym e ∙ z))
-  again from (suc (suc m)) n rest s a e z = by (eqb (code m) BYTES32) segwit refl refl
+  pub again : (from left n rest : ℕ) → KeysAdded segwit table from k left n → is_check_sig_add (ahead_of table left) ≡ true → added_key_of segwit table left ≡ Ok rest → KeysAdded segwit table from k rest (n + 1)
+  again from zero n rest s a z = absurd (false≢true a)
+  again from (suc zero) n rest s a z = absurd (clash (z))
+  again from (suc (suc m)) n rest s a z = by (eqb (code m) BYTES32) segwit refl refl
     where
       its : Result ℕ Refused
       its = added_key_of segwit table (suc (suc m))
 
       by : (b g : Bool) → eqb (code m) BYTES32 ≡ b → segwit ≡ g → KeysAdded segwit table from k rest (n + 1)
-      by false g d q = absurd (clash (sym (key_said m false g d q) ∙ sym e ∙ z))
-      by true true d q = absurd (clash (sym (key_said m true true d q) ∙ sym e ∙ z))
+      by false g d q = absurd (clash (sym (key_said m false g d q) ∙ z))
+      by true true d q = absurd (clash (sym (key_said m true true d q) ∙ z))
       by true false d q =
-          let l : rest ≡ m = ap left_in (sym z ∙ e ∙ key_said m true false d q) in
+          let l : rest ≡ m = ap left_in (sym z ∙ key_said m true false d q) in
           let o : n + 1 ≡ suc n = omega arith in
-          let i : 3 * suc (suc m) ≤ length table = s.tokens.inside in
           let f : n + suc (suc m) < 2147483648 = s.few in
-          let t : suc (suc m) < 2147483648 = s.tokens.few in
           let ds : (script : List ℕ) → datas_from script table (n + 1) rest ≡ data_at script ((token_at table m).place + 1) 32 ∷ datas_from script table n (suc (suc m)) =
           λ script. ap (λ (j : ℕ). datas_from script table j rest) o ∙ ap (λ (j : ℕ). datas_from script table (suc n) j) l in
           record {
-            tokens = record { inside = omega arith; low = s.tokens.low; few = omega arith };
             few = omega arith;
             passed = λ script. ap (allowed.all_multi_a_keys segwit) (ds script) ∙ ap (λ (b : Bool). allowed.multi_a_key b (data_at script ((token_at table m).place + 1) 32) && allowed.all_multi_a_keys segwit (datas_from script table n (suc (suc m)))) q ∙ s.passed script;
             same = λ script.
                 ap (λ (j : ℕ). row_from segwit (multiAKeys k (datas_from script table (n + 1) rest)) script table j) l
                 ∙ ap (λ (x : List Data). row_from segwit (multiAKeys k x) script table m) (ds script)
-                ∙ onward segwit (multiAKeys k (datas_from script table n (suc (suc m)))) script table (suc (suc m)) refl refl CHECKSIGADD (afterCheckSigAdd k (datas_from script table n (suc (suc m)))) (eqb-true (code (suc m)) CHECKSIGADD a) refl
-                (onward segwit (afterCheckSigAdd k (datas_from script table n (suc (suc m)))) script table (suc m) refl refl BYTES32 (multiAKeys k (data_at script ((token_at table m).place + 1) 32 ∷ datas_from script table n (suc (suc m)))) (eqb-true (code m) BYTES32 d)
+                ∙ onward_at segwit (multiAKeys k (datas_from script table n (suc (suc m)))) script table (token_at table (suc m)) (suc m) (suc (suc m)) refl refl CHECKSIGADD (afterCheckSigAdd k (datas_from script table n (suc (suc m)))) (eqb-true (code (suc m)) CHECKSIGADD a) refl
+                (onward_at segwit (afterCheckSigAdd k (datas_from script table n (suc (suc m)))) script table (token_at table m) m (suc m) refl refl BYTES32 (multiAKeys k (data_at script ((token_at table m).place + 1) 32 ∷ datas_from script table n (suc (suc m)))) (eqb-true (code m) BYTES32 d)
                 (ap (λ (b : Bool). pick (allowed.multi_a_key b (data_at script ((token_at table m).place + 1) 32)) (read_on (multiAKeys k (data_at script ((token_at table m).place + 1) 32 ∷ datas_from script table n (suc (suc m))))) (refuse 11)) q)
                 refl)
                 ∙ s.same script;
@@ -200,7 +186,30 @@ pub is_added : {b looked : Bool} → b ≡ looked → not b ≡ false → looked
 is_added {b} e h = sym e ∙ not-false b h
 
 -- CHECKSIG was taken: the keys behind it are those from the token behind it on
-pub behind : (segwit : Bool) (table : List ℕ) (left k n : ℕ) {t : Result Taken Refused} {j : Taken} (r : Result Found Refused) → t ≡ taken_of table left → t ≡ Ok j → ToldMultiA afterCheckSig segwit table j.left (j.left + 1) k n r → ToldMultiA afterCheckSig segwit table j.left left k n r
-behind segwit table left k n {j = j} r e f told =
-    let q : j.left + 1 ≡ left = omega (arith, left_is table left e f) in
-    subst (λ (i : ℕ). ToldMultiA afterCheckSig segwit table j.left i k n r) q told
+pub behind : (segwit : Bool) (table : List ℕ) (left k n : ℕ) {j : Taken} (r : Result Found Refused) → IsTaken table left j → ToldMultiA afterCheckSig segwit j.rest (j.rest.left + 1) k n r → (script : List ℕ) → allowed.all_multi_a_keys segwit (datas_from script table n left) ≡ true → reading_of script j.rest.table.now r ≡ row_from segwit (afterCheckSig k (datas_from script table n left)) script j.rest.table.now j.rest.left
+behind segwit table left k n {j} r t told script passed =
+    let q : j.rest.left + 1 ≡ left = omega (arith, t.left_is) in
+    let ds : datas_from script j.rest.table.now n (j.rest.left + 1) ≡ datas_from script table n left =
+    ap (λ (y : List ℕ). datas_from script y n (j.rest.left + 1)) t.same ∙ ap (datas_from script table n) q in
+    told script (ap (allowed.all_multi_a_keys segwit) ds ∙ passed) ∙ ap (λ (d : List Data). row_from segwit (afterCheckSig k d) script j.rest.table.now j.rest.left) ds
+
+-- the loop: n keys are read, and these tokens of the table are left
+pub record KeysIn (segwit : Bool) (from : Tokens) (k : ℕ) (tokens : Tokens) (n : ℕ) : Type 0 where
+  pub its : tokens.table.now ≡ from.table.now
+  pub added : KeysAdded segwit from.table.now from.left k tokens.left n
+
+module _ (segwit : Bool) (from : Tokens) (k : ℕ) (tokens : Tokens) (n : ℕ) (s : KeysIn segwit from k tokens n) (a : is_check_sig_add (ahead_of tokens.table.now tokens.left) ≡ true) where
+  ahead : is_check_sig_add (ahead_of from.table.now tokens.left) ≡ true
+  ahead = ap (λ (y : List ℕ). is_check_sig_add (ahead_of y tokens.left)) (sym s.its) ∙ a
+
+  pub added_again : (rest : Tokens) → (rest.table.now ≡ tokens.table.now) × (added_key_of segwit tokens.table.now tokens.left ≡ Ok rest.left) → KeysIn segwit from k rest (n + 1)
+  added_again rest h =
+      record {
+        its = h.0 ∙ s.its;
+        added = again segwit from.table.now k from.left tokens.left n rest.left s.added ahead (ap (λ (y : List ℕ). added_key_of segwit y tokens.left) (sym s.its) ∙ h.1);
+      }
+
+  pub added_refused : (script : List ℕ) {none : Refused} → added_key_of segwit tokens.table.now tokens.left ≡ Err none → reading_of script from.table.now (Err none) ≡ row_from segwit (multiAKeys k []) script from.table.now from.left
+  added_refused script h =
+      key_refused segwit from.table.now k script tokens.left (datas_from script from.table.now n tokens.left) ahead (ap (λ (y : List ℕ). added_key_of segwit y tokens.left) (sym s.its) ∙ h)
+      ∙ s.added.same script

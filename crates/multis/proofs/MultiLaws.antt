@@ -1,6 +1,6 @@
 -- The keys of a multi: the loop that reads them, and its k behind them. Assumes nothing.
 -- Why: with i keys read, from the token `left` on, the row from there is that of the first point; each key that passes leads from one such state to the next.
-use mathlib.Core.Path.{◌≡◌, refl, sym, ap, ◌∙◌}
+use mathlib.Core.Path.{◌≡◌, refl, sym, ap, subst, ◌∙◌}
 use mathlib.Core.Bool.{Bool, true, false, ◌&&◌, false≢true}
 use mathlib.Core.List.{List, [], ◌∷◌}
 use Prim.Native.Nat.{ℕ, zero, suc, ◌+◌, ◌-◌, ◌*◌, ◌≤◌, ◌<◌}
@@ -20,13 +20,15 @@ use Rattle.row.specs.declared.Row.TheVariants as row
 use Rattle.row.specs.declared.Found.{Found}
 use Rattle.row.specs.declared.Refused.{Refused}
 use Rattle.row.specs.declared.Taken.{Taken}
-use Rattle.row.specs.Tokens.{token_at, lexemes_left, taken_of, InTable}
+use Rattle.row.specs.declared.table.Tokens.{Tokens}
+use Rattle.row.specs.Next.{IsTaken}
+use Rattle.row.specs.Tokens.{token_at, lexemes_left}
 use Rattle.row.specs.Request.{Request, refused, keys_node, reading, asked, offsets_from, reading_of}
 use Rattle.row.specs.Told.{row_from}
 use Rattle.row.proofs.LookLaws.{lexeme_by, look_missed}
-use Rattle.row.proofs.TakenLaws.{row_pick, left_is, fewer, led, took}
+use Rattle.row.proofs.TakenLaws.{row_pick, led, took}
 use Rattle.locks.specs.Leaves.{key_at}
-use Rattle.multis.specs.Keys.{keys_from, form_refusal, key_refusal, multi_row}
+use Rattle.multis.specs.Keys.{keys_from, form_refusal, key_refusal, multi_row, ToldMulti}
 
 -- the keys, as the row hands them on
 key_offsets : (script table : List ℕ) (n i : ℕ) → key_places (keys_from script table n i) ≡ offsets_from table n i 1
@@ -66,7 +68,7 @@ module _ (segwit : Bool) (script : List ℕ) (t : Taken) where
   decided_by (Ok u) further = read_on further
   decided_by (Err none) further = refuse none.number
 
-  by_form : (form : Bool) (further : Point) → pick form (read_on further) (refuse 11) ≡ decided_by (form_refusal form t.left) further
+  by_form : (form : Bool) (further : Point) → pick form (read_on further) (refuse 11) ≡ decided_by (form_refusal form t.rest.left) further
   by_form true further = refl
   by_form false further = refl
 
@@ -85,10 +87,10 @@ module _ (segwit : Bool) (script : List ℕ) (t : Taken) where
       want c = pick (multi_key segwit (key_at script c (t.place + 1))) (read_on (multi_keys m (key_at script c (t.place + 1) ∷ ks))) (refuse 11)
 
       form : Result (Unit {0}) Refused
-      form = form_refusal (multi_key segwit its) t.left
+      form = form_refusal (multi_key segwit its) t.rest.left
 
       else-10 : Result (Unit {0}) Refused
-      else-10 = Err (record { number = 10; left = t.left })
+      else-10 = Err (record { number = 10; left = t.rest.left })
 
       at : (c : ℕ) → act c ≡ want c → t.code ≡ c → act t.code ≡ decided_by form further
       at c h e = ap act e ∙ h ∙ ap want (sym e) ∙ by_form (multi_key segwit its) further
@@ -108,7 +110,7 @@ module _ (segwit : Bool) (script : List ℕ) (t : Taken) where
   unfolding key_refusal
   allowed_key h = by (eqb t.code BYTES33) (eqb t.code BYTES65) (multi_key segwit its) h
     where
-      by : (b d form : Bool) {u : Unit {0}} → pick b (form_refusal form t.left) (pick d (form_refusal form t.left) (Err (record { number = 10; left = t.left }))) ≡ Ok u → form ≡ true
+      by : (b d form : Bool) {u : Unit {0}} → pick b (form_refusal form t.rest.left) (pick d (form_refusal form t.rest.left) (Err (record { number = 10; left = t.rest.left }))) ≡ Ok u → form ≡ true
       by true d true e = refl
       by true d false e = cc
       by false true true e = refl
@@ -117,72 +119,82 @@ module _ (segwit : Bool) (script : List ℕ) (t : Taken) where
 
   -- a key that is refused was taken
   abbrev left_in : Result (Unit {0}) Refused → ℕ
-  left_in (Ok u) = t.left
+  left_in (Ok u) = t.rest.left
   left_in (Err none) = none.left
 
-  refused_left : {none : Refused} → key_refusal segwit script t ≡ Err none → none.left ≡ t.left
+  refused_left : {none : Refused} → key_refusal segwit script t ≡ Err none → none.left ≡ t.rest.left
   unfolding key_refusal
   refused_left h = sym (ap left_in h) ∙ by (eqb t.code BYTES33) (eqb t.code BYTES65) (multi_key segwit its)
     where
-      by : (b d form : Bool) → left_in (pick b (form_refusal form t.left) (pick d (form_refusal form t.left) (Err (record { number = 10; left = t.left })))) ≡ t.left
+      by : (b d form : Bool) → left_in (pick b (form_refusal form t.rest.left) (pick d (form_refusal form t.rest.left) (Err (record { number = 10; left = t.rest.left })))) ≡ t.rest.left
       by true d true = refl
       by true d false = refl
       by false true true = refl
       by false true false = refl
       by false false form = refl
 
-module _ (segwit : Bool) (script table : List ℕ) (left : ℕ) {t : Result Taken Refused} {k : Taken} (e : t ≡ taken_of table left) (f : t ≡ Ok k) where
+module _ (segwit : Bool) (script table : List ℕ) (left : ℕ) {k : Taken} (t : IsTaken table left k) where
   pub key_refused : (n : ℕ) (ks : List Key) {a : Result (Unit {0}) Refused} {none : Refused} (r : Result Found Refused) → 1 ≤ n → a ≡ key_refusal segwit script k → a ≡ Err none → IsErrAnd r (λ x. x ≡ none) → reading_of script table r ≡ row_from segwit (multi_keys n ks) script table left
   key_refused zero ks r l q h g = absurd (omega arith)
   key_refused (suc n) ks (Ok x) l q h g = absurd g
   key_refused (suc n) ks {a} {none} (Err x) l q h g =
       ap (λ (y : Refused). reading_of script table (Err y)) g
       ∙ ap (λ (i : ℕ). reading (refused none.number) (lexemes_left script table i)) (refused_left segwit script k (sym q ∙ h))
-      ∙ took segwit (multi_keys (suc n) ks) script table left e f
-      (ap (λ (y : Act). led segwit (multi_keys (suc n) ks) script table y (lexeme_by script k.code k.number k.place) k.left)
+      ∙ took segwit (multi_keys (suc n) ks) script table left t
+      (ap (λ (y : Act). led segwit (multi_keys (suc n) ks) script table y (lexeme_by script k.code k.number k.place) k.rest.left)
       (sym
       (key_case segwit script k n ks
       ∙ ap (λ (z : Result (Unit {0}) Refused). decided_by segwit script k z (multi_keys n (key_at script k.code (k.place + 1) ∷ ks))) (sym q ∙ h))))
 
-  key_passed : (n : ℕ) (ks : List Key) {u : Unit {0}} → key_refusal segwit script k ≡ Ok u → row_from segwit (multi_keys n (key_at script k.code (k.place + 1) ∷ ks)) script table k.left ≡ row_from segwit (multi_keys (suc n) ks) script table left
+  key_passed : (n : ℕ) (ks : List Key) {u : Unit {0}} → key_refusal segwit script k ≡ Ok u → row_from segwit (multi_keys n (key_at script k.code (k.place + 1) ∷ ks)) script table k.rest.left ≡ row_from segwit (multi_keys (suc n) ks) script table left
   unfolding row_from
   key_passed n ks q =
-      took segwit (multi_keys (suc n) ks) script table left e f
-      (ap (λ (y : Act). led segwit (multi_keys (suc n) ks) script table y (lexeme_by script k.code k.number k.place) k.left)
+      took segwit (multi_keys (suc n) ks) script table left t
+      (ap (λ (y : Act). led segwit (multi_keys (suc n) ks) script table y (lexeme_by script k.code k.number k.place) k.rest.left)
       (sym (key_case segwit script k n ks ∙ ap (λ (z : Result (Unit {0}) Refused). decided_by segwit script k z (multi_keys n (key_at script k.code (k.place + 1) ∷ ks))) q)))
 
--- the loop: i keys of n are read, from the token `left` on
-pub record KeysRead (segwit : Bool) (script table : List ℕ) (from n left i : ℕ) : Type 0 where
-  pub tokens : InTable table left
+-- the loop: i keys of n are read, and these tokens of the table are left
+pub record KeysRead (segwit : Bool) (script table : List ℕ) (from n : ℕ) (tokens : Tokens) (i : ℕ) : Type 0 where
+  pub its : tokens.table.now ≡ table
   pub count : i ≤ n
-  pub passed : allowed.all_multi_keys segwit (keys_from script table i left) ≡ true
-  pub same : row_from segwit (multi_keys (n - i) (keys_from script table i left)) script table left ≡ row_from segwit (multi_keys n []) script table from
+  pub passed : allowed.all_multi_keys segwit (keys_from script table i tokens.left) ≡ true
+  pub same : row_from segwit (multi_keys (n - i) (keys_from script table i tokens.left)) script table tokens.left ≡ row_from segwit (multi_keys n []) script table from
 
-abbrev code_in : Result Taken Refused → ℕ
-code_in (Ok k) = k.code
-code_in (Err none) = 0
-
-abbrev place_in : Result Taken Refused → ℕ
-place_in (Ok k) = k.place
-place_in (Err none) = 0
-
-pub again : (segwit : Bool) (script table : List ℕ) (from n left i : ℕ) {t : Result Taken Refused} {j : Taken} {r : Result (Unit {0}) Refused} {u : Unit {0}} → KeysRead segwit script table from n left i → i < n → (e : t ≡ taken_of table left) → (f : t ≡ Ok j) → r ≡ key_refusal segwit script j → r ≡ Ok u → KeysRead segwit script table from n j.left (i + 1)
-again segwit script table from n left i {j = j} {u = u} r l e f q z =
+pub again : (segwit : Bool) (script table : List ℕ) (from n : ℕ) (tokens : Tokens) (i : ℕ) {j : Taken} {r : Result (Unit {0}) Refused} {u : Unit {0}} → KeysRead segwit script table from n tokens i → i < n → IsTaken tokens.table.now tokens.left j → r ≡ key_refusal segwit script j → r ≡ Ok u → KeysRead segwit script table from n j.rest (i + 1)
+again segwit script table from n tokens i {j = j} {u = u} r l taken q z =
+    let t : IsTaken table tokens.left j = subst (λ (y : List ℕ). IsTaken y tokens.left j) r.its taken in
     let k : key_refusal segwit script j ≡ Ok u = sym q ∙ z in
     let a : i + 1 ≡ suc i = omega arith in
     let d : n - i ≡ suc (n - (i + 1)) = omega arith in
-    let on : taken_of table (suc j.left) ≡ Ok j = ap (taken_of table) (left_is table left e f) ∙ sym e ∙ f in
-    let ks : keys_from script table (i + 1) j.left ≡ key_at script j.code (j.place + 1) ∷ keys_from script table i left =
-    ap (λ (m : ℕ). keys_from script table m j.left) a
-    ∙ ap (λ (m : ℕ). key_at script (token_at table j.left).code ((token_at table j.left).place + 1) ∷ keys_from script table i m) (left_is table left e f)
-    ∙ ap (λ (y : Result Taken Refused). key_at script (code_in y) (place_in y + 1) ∷ keys_from script table i left) on in
+    let c : (token_at table j.rest.left).code ≡ j.code = sym t.code in
+    let p : (token_at table j.rest.left).place ≡ j.place = sym t.place in
+    let ks : keys_from script table (i + 1) j.rest.left ≡ key_at script j.code (j.place + 1) ∷ keys_from script table i tokens.left =
+    ap (λ (m : ℕ). keys_from script table m j.rest.left) a
+    ∙ ap (λ (m : ℕ). key_at script (token_at table j.rest.left).code ((token_at table j.rest.left).place + 1) ∷ keys_from script table i m) t.left_is
+    ∙ ap (λ (m : ℕ). key_at script m ((token_at table j.rest.left).place + 1) ∷ keys_from script table i tokens.left) c
+    ∙ ap (λ (m : ℕ). key_at script j.code (m + 1) ∷ keys_from script table i tokens.left) p in
     record {
-      tokens = fewer table left e f r.tokens;
+      its = t.same;
       count = omega arith;
-      passed = ap (allowed.all_multi_keys segwit) ks ∙ ap (λ (b : Bool). b && allowed.all_multi_keys segwit (keys_from script table i left)) (allowed_key segwit script j k) ∙ r.passed;
+      passed = ap (allowed.all_multi_keys segwit) ks ∙ ap (λ (b : Bool). b && allowed.all_multi_keys segwit (keys_from script table i tokens.left)) (allowed_key segwit script j k) ∙ r.passed;
       same =
-          ap (λ (m : List Key). row_from segwit (multi_keys (n - (i + 1)) m) script table j.left) ks
-          ∙ key_passed segwit script table left e f (n - (i + 1)) (keys_from script table i left) k
-          ∙ ap (λ (m : ℕ). row_from segwit (multi_keys m (keys_from script table i left)) script table left) (sym d)
+          ap (λ (m : List Key). row_from segwit (multi_keys (n - (i + 1)) m) script table j.rest.left) ks
+          ∙ key_passed segwit script table tokens.left t (n - (i + 1)) (keys_from script table i tokens.left) k
+          ∙ ap (λ (m : ℕ). row_from segwit (multi_keys m (keys_from script table i tokens.left)) script table tokens.left) (sym d)
           ∙ r.same;
     }
+
+-- all keys are read: what is read behind them
+pub all_read : (segwit : Bool) (script table : List ℕ) (from n : ℕ) (tokens : Tokens) (i : ℕ) (r : Result Found Refused) → KeysRead segwit script table from n tokens i → n ≤ i → ToldMulti tokens n r → reading_of script table r ≡ row_from segwit (multi_keys n []) script table from
+all_read segwit script table from n tokens i r read h told =
+    let q : i ≤ n = read.count in
+    let e : i ≡ n = omega arith in
+    let d : n - i ≡ 0 = omega arith in
+    subst
+    (λ (y : List ℕ). allowed.all_multi_keys segwit (keys_from script y n tokens.left) ≡ true → reading_of script y r ≡ row_from segwit (multi_keys zero (keys_from script y n tokens.left)) script y tokens.left)
+    read.its
+    (told segwit script)
+    (ap (λ (j : ℕ). allowed.all_multi_keys segwit (keys_from script table j tokens.left)) (sym e) ∙ read.passed)
+    ∙ ap (λ (j : ℕ). row_from segwit (multi_keys zero (keys_from script table j tokens.left)) script table tokens.left) (sym e)
+    ∙ ap (λ (j : ℕ). row_from segwit (multi_keys j (keys_from script table i tokens.left)) script table tokens.left) (sym d)
+    ∙ read.same

@@ -1,5 +1,6 @@
 -- What the rows of `decode` are read with.
 pub mod Tokens
+pub mod Next
 pub mod Request
 pub mod Told
 pub mod Examples

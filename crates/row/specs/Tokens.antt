@@ -1,9 +1,7 @@
 -- For the proof: the tokens that are left, read off the token table, which has three numbers for each (document 01, "A token holds code, number and place of its instruction"). "The last token is taken first", so the next one stands first.
-use Rattle.std.specs.Prelude.{List, ℕ, zero, suc, ◌+◌, ◌*◌, ◌≤◌, ◌<◌, length, get_or, Option, None, Some, Result, Ok, Err}
+use Rattle.std.specs.Prelude.{List, ℕ, zero, suc, ◌+◌, ◌*◌, ◌≤◌, ◌<◌, length, get_or, Option, None, Some}
 use Rattle.tables.specs.Tables.{newest}
 use Rattle.lex.specs.Token.{Token, token, Lexeme, lexeme}
-use Rattle.row.specs.declared.Taken.{Taken}
-use Rattle.row.specs.declared.Refused.{Refused}
 
 -- token i of the table
 abbrev pub token_at : List ℕ → ℕ → Token
@@ -12,11 +10,6 @@ token_at table i = token (get_or table (3 * i) 0) (get_or table (3 * i + 1) 0) (
 -- the first `left` tokens of the table with what they push, the last of them first
 abbrev pub lexemes_left : List ℕ → List ℕ → ℕ → List Lexeme
 lexemes_left script table left = newest (λ (i : ℕ). lexeme script (token_at table i)) left
-
--- the next token, and how many are left after it; 9 if there is none
-abbrev pub taken_of : List ℕ → ℕ → Result Taken Refused
-taken_of table zero = Err (record { number = 9; left = 0 })
-taken_of table (suc rest) = Ok (record { code = get_or table (3 * rest) 0; number = get_or table (3 * rest + 1) 0; place = get_or table (3 * rest + 2) 0; left = rest })
 
 -- the code of the next token
 abbrev pub ahead_of : List ℕ → ℕ → Option ℕ

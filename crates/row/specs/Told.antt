@@ -5,6 +5,7 @@ use Rattle.standard.specs.Rows.{Point, is_and_v, read_from, row_of}
 use Rattle.row.specs.Tokens.{lexemes_left}
 use Rattle.row.specs.Request.{Reading, reading_asked, entry_of, reading_of}
 use Rattle.row.specs.declared.NonTerm.{NonTerm}
+use Rattle.row.specs.declared.table.Tokens.{Tokens}
 use Rattle.row.specs.declared.Found.{Found}
 use Rattle.row.specs.declared.Refused.{Refused}
 
@@ -17,21 +18,25 @@ unfoldable pub entry_row : Bool → NonTerm → List ℕ → List ℕ → ℕ �
 entry_row segwit entry script table left = reading_asked segwit (row_of segwit (entry_of entry) (lexemes_left script table left))
 
 -- of a function that is lent no script and told no kind: it reads the row from a point on in either kind, whatever the script's bytes are
-abbrev pub Told : Point → List ℕ → ℕ → Result Found Refused → Type 0
-Told point table left r = (segwit : Bool) (script : List ℕ) → reading_of script table r ≡ row_from segwit point script table left
+abbrev pub Told : Point → Tokens → Result Found Refused → Type 0
+Told point tokens r = (segwit : Bool) (script : List ℕ) → reading_of script tokens.table.now r ≡ row_from segwit point script tokens.table.now tokens.left
 
 -- the same, at a point that holds pushed data, whose bytes the function doesn't look at
-abbrev pub ToldOf : (Data → Point) → ℕ → List ℕ → ℕ → Result Found Refused → Type 0
-ToldOf point offset table left r = (segwit : Bool) (script bytes : List ℕ) → reading_of script table r ≡ row_from segwit (point (record { place = offset; bytes = bytes })) script table left
+abbrev pub ToldOf : (Data → Point) → ℕ → Tokens → Result Found Refused → Type 0
+ToldOf point offset tokens r = (segwit : Bool) (script bytes : List ℕ) → reading_of script tokens.table.now r ≡ row_from segwit (point (record { place = offset; bytes = bytes })) script tokens.table.now tokens.left
 
 -- of a function that is told the kind
-abbrev pub ToldIn : Bool → Point → List ℕ → ℕ → Result Found Refused → Type 0
-ToldIn segwit point table left r = (script : List ℕ) → reading_of script table r ≡ row_from segwit point script table left
+abbrev pub ToldIn : Bool → Point → Tokens → Result Found Refused → Type 0
+ToldIn segwit point tokens r = (script : List ℕ) → reading_of script tokens.table.now r ≡ row_from segwit point script tokens.table.now tokens.left
+
+-- of a function that is lent the script too
+abbrev pub ToldBy : Bool → Point → List ℕ → Tokens → Result Found Refused → Type 0
+ToldBy segwit point script tokens r = reading_of script tokens.table.now r ≡ row_from segwit point script tokens.table.now tokens.left
 
 -- of a function that reads the row of an entry
-abbrev pub ToldEntry : NonTerm → List ℕ → ℕ → Result Found Refused → Type 0
-ToldEntry entry table left r = (segwit : Bool) (script : List ℕ) → reading_of script table r ≡ entry_row segwit entry script table left
+abbrev pub ToldEntry : NonTerm → Tokens → Result Found Refused → Type 0
+ToldEntry entry tokens r = (segwit : Bool) (script : List ℕ) → reading_of script tokens.table.now r ≡ entry_row segwit entry script tokens.table.now tokens.left
 
 -- of is_and_v
-abbrev pub ToldAndV : List ℕ → ℕ → Bool → Type 0
-ToldAndV table left r = (script : List ℕ) → r ≡ is_and_v (lexemes_left script table left)
+abbrev pub ToldAndV : Tokens → Bool → Type 0
+ToldAndV tokens r = (script : List ℕ) → r ≡ is_and_v (lexemes_left script tokens.table.now tokens.left)

@@ -3,10 +3,14 @@
 #![tactic(auto)]
 
 ghost use Rattle.std.specs.Prelude.{◌≡◌, ◌+◌, ◌*◌, ◌≤◌, length};
-ghost use Rattle.row.specs.Tokens.{taken_of, ahead_of};
+ghost use Rattle.row.specs.Tokens.{ahead_of};
+ghost use Rattle.row.specs.Next.{IsNext};
 ghost use Rattle.row.specs.Request.{asked_at, refused_at};
 
 pub mod kind;
+pub mod table;
+
+pub use table::Tokens;
 
 // The codes of tokens, for the rows above.
 pub use lex::token;
@@ -96,13 +100,63 @@ pub struct Refused {
     pub left: usize,
 }
 
-// The next token, and how many are left once it is taken.
+// The next token, and the tokens left once it is taken.
 #[derive(Clone, Copy)]
-pub struct Taken {
+pub struct Taken<'a> {
     pub code: u32,
     pub number: u32,
     pub place: u32,
-    pub left: usize,
+    pub rest: Tokens<'a>,
+}
+
+impl<'a> Tokens<'a> {
+    // Takes a token: 9 where none is left. The cursor that is lent for it is crate `cursor`'s.
+    pub fn next(self) -> Result<Taken<'a>, Refused>
+        ensures { IsNext self.entry.table.now self.entry.left result }
+    {
+        let took = cursor::take(self.table, self.left);
+        let token = took.token.ok_or(Refused { number: 9, left: 0 })?;
+        Ok(Taken {
+            code: token.code,
+            number: token.number,
+            place: token.place,
+            rest: Tokens {
+                table: self.table,
+                left: took.left,
+            },
+        })
+    }
+
+    // The code of the token that would be taken next.
+    pub fn peek(self) -> Option<u32>
+        ensures { result ≡ ahead_of self.entry.table.now self.entry.left }
+    {
+        cursor::look(self.table, self.left).map(|token| token.code)
+    }
+}
+
+impl<'a> Taken<'a> {
+    // The answer of a row that ends with this token.
+    pub fn ask(self, row: Row) -> Result<Found, Refused>
+        ensures { result ≡ asked_at row self.entry.rest.left }
+    {
+        ask(row, self.rest.left)
+    }
+
+    // The refusal of a row that ends with this token.
+    pub fn refuse(self, number: u32) -> Result<Found, Refused>
+        ensures { result ≡ refused_at number self.entry.rest.left }
+    {
+        refuse(number, self.rest.left)
+    }
+
+    // How many tokens are left once this one is put back.
+    pub fn un_next(self) -> usize
+        requires { 3 * (self.rest.left + 1) ≤ length self.rest.table.now }
+        ensures { result ≡ self.entry.rest.left + 1 }
+    {
+        cursor::put_back(self.rest.table, self.rest.left)
+    }
 }
 
 // A row's answer, with so many tokens left.
@@ -117,36 +171,4 @@ pub fn refuse(number: u32, left: usize) -> Result<Found, Refused>
     ensures { result ≡ refused_at number left }
 {
     Err(Refused { number, left })
-}
-
-// Takes a token: 9 where none is left. The last one of the script is taken first. The cursor that is lent for it is crate
-// `cursor`'s.
-pub fn next(tokens: &[u32], left: usize) -> Result<Taken, Refused>
-    requires { 3 * left ≤ length tokens.now }
-    ensures { result ≡ taken_of tokens.now left }
-{
-    let took = cursor::take(tokens, left);
-    let token = took.token.ok_or(Refused { number: 9, left: 0 })?;
-    Ok(Taken {
-        code: token.code,
-        number: token.number,
-        place: token.place,
-        left: took.left,
-    })
-}
-
-// The code of the token that would be taken next.
-pub fn peek(tokens: &[u32], left: usize) -> Option<u32>
-    requires { 3 * left ≤ length tokens.now }
-    ensures { result ≡ ahead_of tokens.now left }
-{
-    cursor::look(tokens, left).map(|token| token.code)
-}
-
-// Puts the token back that was taken last.
-pub fn un_next(tokens: &[u32], left: usize) -> usize
-    requires { 3 * (left + 1) ≤ length tokens.now }
-    ensures { result ≡ left + 1 }
-{
-    cursor::put_back(tokens, left)
 }

@@ -4,7 +4,7 @@ use mathlib.Core.Bool.{Bool}
 use mathlib.Core.List.{List, [], ◌∷◌}
 use Prim.Native.Nat.{ℕ, suc, ◌+◌, ◌<◌}
 use native.Mathlib.Omega.{arith}
-use Rattle.std.specs.Prelude.{Result, Ok, Err, IsErrAnd}
+use Rattle.std.specs.Prelude.{Result, IsErrAnd}
 use Rattle.lex.specs.Token.{Lexeme, ADD}
 use Rattle.standard.specs.Allowed.{within}
 use Rattle.standard.specs.Rows.{Point, in_thresh_w, opcode, enter, WExpression, Expression, ThreshW, ThreshE, read_from, row_of}
@@ -15,7 +15,8 @@ use Rattle.row.specs.declared.Row.TheVariants as row
 use Rattle.row.specs.declared.Found.{Found}
 use Rattle.row.specs.declared.Refused.{Refused}
 use Rattle.row.specs.declared.Taken.{Taken}
-use Rattle.row.specs.Tokens.{lexemes_left, taken_of}
+use Rattle.row.specs.Tokens.{lexemes_left}
+use Rattle.row.specs.Next.{IsTaken}
 use Rattle.row.specs.Request.{entries, Reading, reading, reading_asked, entry_of, counted, asked_at, reading_of}
 use Rattle.row.specs.Told.{row_from, entry_row}
 use Rattle.row.proofs.LookLaws.{Rest}
@@ -55,7 +56,7 @@ pub counts : (entry : NonTerm) (k n : ℕ) → entry ≡ non-term.ThreshW k n �
 counts entry k n q h = subst (λ (x : NonTerm). counted x < 2147483648) q h
 
 -- thresh's children
-module _ (segwit : Bool) (script table : List ℕ) (left k n : ℕ) {t : Result Taken Refused} (e : t ≡ taken_of table left) where
+module _ (segwit : Bool) (script table : List ℕ) (left k n : ℕ) where
   at_entry : {x : Reading} → x ≡ row_from segwit (in_thresh_w k n) script table left → x ≡ entry_row segwit (non-term.ThreshW k n) script table left
   unfolding row_from entry_row
   at_entry h = h
@@ -63,14 +64,14 @@ module _ (segwit : Bool) (script table : List ℕ) (left k n : ℕ) {t : Result 
   one_more : n + 1 ≡ suc n
   one_more = omega arith
 
-  pub no_child : {none : Refused} (r : Result Found Refused) → t ≡ Err none → IsErrAnd r (λ x. x ≡ none) → reading_of script table r ≡ entry_row segwit (non-term.ThreshW k n) script table left
-  no_child r f g = at_entry (dry segwit (in_thresh_w k n) script table left e r f g)
+  pub no_child : {none : Refused} (r : Result Found Refused) → (left ≡ 0) × (none ≡ record { number = 9; left = 0 }) → IsErrAnd r (λ x. x ≡ none) → reading_of script table r ≡ entry_row segwit (non-term.ThreshW k n) script table left
+  no_child r f g = at_entry (dry segwit (in_thresh_w k n) script table left r f g)
 
-  module _ {j : Taken} (f : t ≡ Ok j) where
-    pub child_more : {r : Result Found Refused} → j.code ≡ ADD → r ≡ asked_at (row.Enter2 (non-term.ThreshW k (n + 1)) non-term.WExpression) j.left → reading_of script table r ≡ entry_row segwit (non-term.ThreshW k n) script table left
-    child_more q s = at_entry (arm segwit (in_thresh_w k n) script table left e f ADD q (ap (reading_of script table) s ∙ ap (λ (i : ℕ). reading (entries (WExpression ∷ ThreshW k i ∷ [])) (lexemes_left script table j.left)) one_more))
+  module _ {j : Taken} (t : IsTaken table left j) where
+    pub child_more : {r : Result Found Refused} → j.code ≡ ADD → r ≡ asked_at (row.Enter2 (non-term.ThreshW k (n + 1)) non-term.WExpression) j.rest.left → reading_of script table r ≡ entry_row segwit (non-term.ThreshW k n) script table left
+    child_more q s = at_entry (arm segwit (in_thresh_w k n) script table left t ADD q (ap (reading_of script table) s ∙ ap (λ (i : ℕ). reading (entries (WExpression ∷ ThreshW k i ∷ [])) (lexemes_left script table j.rest.left)) one_more))
 
-    pub first_child : Rest j.code (Unit {0}) (3 ∷ []) → {back : ℕ} → back ≡ j.left + 1 → {r : Result Found Refused} → r ≡ asked_at (row.Enter2 (non-term.ThreshE k (n + 1)) non-term.Expression) back → reading_of script table r ≡ entry_row segwit (non-term.ThreshW k n) script table left
+    pub first_child : Rest j.code (Unit {0}) (3 ∷ []) → {back : ℕ} → back ≡ j.rest.left + 1 → {r : Result Found Refused} → r ≡ asked_at (row.Enter2 (non-term.ThreshE k (n + 1)) non-term.Expression) back → reading_of script table r ≡ entry_row segwit (non-term.ThreshW k n) script table left
     first_child x b s =
         at_entry
-        (put_back_lem segwit (in_thresh_w k n) script table left e f (opcode ADD (enter (WExpression ∷ ThreshW k (suc n) ∷ [])) ∷ []) (ThreshE k (suc n) ∷ []) (row.Enter2 (non-term.ThreshE k (n + 1)) non-term.Expression) tt refl x (ap (λ (i : ℕ). entries (Expression ∷ ThreshE k i ∷ [])) one_more) b s)
+        (put_back_lem segwit (in_thresh_w k n) script table left t (opcode ADD (enter (WExpression ∷ ThreshW k (suc n) ∷ [])) ∷ []) (ThreshE k (suc n) ∷ []) (row.Enter2 (non-term.ThreshE k (n + 1)) non-term.Expression) tt refl x (ap (λ (i : ℕ). entries (Expression ∷ ThreshE k i ∷ [])) one_more) b s)

@@ -4,10 +4,10 @@ use Rattle.row.proofs.TakenLaws.{dry, onward, unfit}
 use mathlib.Core.Path.{refl}
 
 pub returns-in_err-token : goal.returns-in_err-token
-returns-in_err-token c = λ segwit script bytes. dry segwit _ script c.args.tokens.now c.args.left c.next.ensures c.from_residual.result c.in_err-token.was c.from_residual.ensures.1
+returns-in_err-token c = λ segwit script bytes. dry segwit _ script c.args.tokens.table.now c.args.tokens.left c.from_residual.result c.in_err-token.ensures c.from_residual.ensures.1
 
 pub returns-in-23 : goal.returns-in-23
-returns-in-23 c = λ segwit script bytes. onward segwit _ script c.args.tokens.now c.args.left c.next.ensures c.in_ok-token.was 23 _ c.in-23.is refl (c.lock_equal.ensures segwit script bytes)
+returns-in-23 c = λ segwit script bytes. onward segwit _ script c.args.tokens.table.now c.args.tokens.left c.in_ok-token.ensures 23 _ c.lock_equal.result c.in-23.is refl (c.lock_equal.ensures segwit script bytes)
 
 pub returns-in_default : goal.returns-in_default
-returns-in_default c = λ segwit script bytes. unfit segwit _ script c.args.tokens.now c.args.left c.next.ensures c.in_ok-token.was tt refl c.in_default.in_default-own.rest c.refuse.ensures
+returns-in_default c = λ segwit script bytes. unfit segwit _ script c.args.tokens.table.now c.args.tokens.left c.in_ok-token.ensures tt refl c.in_default.in_default-own.rest c.refuse.ensures

@@ -3,4 +3,4 @@ use Rattle.multis.proofs.MultiLaws.{KeysRead}
 use Rattle.multis.proofs.multi_keys.Given as goal
 
 abbrev pub invariant-loop : goal.invariant-loop
-invariant-loop l = KeysRead l.segwit l.script l.tokens l.from l.n l.left l.counter
+invariant-loop l = KeysRead l.segwit l.script l.from.table.now l.from.left l.n l.tokens l.counter
