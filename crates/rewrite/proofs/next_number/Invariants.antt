@@ -1,8 +1,0 @@
--- `rewrite::next_number` meets its contract.
-use Rattle.rewrite.proofs.next_number.Given as goal
-
-abbrev pub invariant-loop-left : goal.invariant-loop-left
-invariant-loop-left l = Unit {0}
-
-abbrev pub decreases-loop-left : goal.decreases-loop-left
-decreases-loop-left l = l.left

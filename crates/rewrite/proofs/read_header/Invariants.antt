@@ -1,8 +1,0 @@
--- `rewrite::read_header` meets its contract.
-use Rattle.rewrite.proofs.read_header.Given as goal
-
-abbrev pub invariant-loop-left : goal.invariant-loop-left
-invariant-loop-left l = Unit {0}
-
-abbrev pub decreases-loop-left : goal.decreases-loop-left
-decreases-loop-left l = l.left
