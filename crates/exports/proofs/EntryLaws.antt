@@ -28,9 +28,7 @@ lexed_tokens n (lex.refused k p) e = let z : ◌≡◌ {A = ℕ} 0 1 = cc in abs
 lexed_refused : (k p : ℕ) (o : lex.Outcome) → Err (lex.refusal k p) ≡ lex.answer_of o → record { number = k; place = p; tokens = 0 } ≡ lexed_of o
 lexed_refused k p (lex.tokens ts) e = let z : ◌≡◌ {A = ℕ} 0 1 = cc in absurd (omega arith)
 lexed_refused k p (lex.refused k' p') e =
-    let z : k ≡ k' = cc in
-    let w : p ≡ p' = cc in
-    rw (z, w)
+    ap (λ (a : lex.Answer). record { number = (lex.numbers_of a).number; place = (lex.numbers_of a).place; tokens = 0 }) e
 
 pub lex_accepted : (s : List ℕ) (size n : ℕ) (r : lex.Answer) (table : List ℕ) → r ≡ Ok n → lex.Lexes s size r table
     → Lexes s size (record { number = 0; place = 0; tokens = n }) table
