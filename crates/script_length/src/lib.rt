@@ -124,7 +124,7 @@ fn multi_a_bytes(k: u32, n: u32) -> usize
     34 * (n as usize) + number_bytes(k) + 1
 }
 
-// What node number i adds to the script besides its children.
+// What node number i adds to the script besides its children: a table by kind, in the order of the kinds.
 #[tactic(auto, unfolding(standard::specs::Table::terminal_of, crate::specs::Length::added_bytes))]
 fn own_bytes(segwit: bool, nodes: &[u32], i: usize) -> usize
     requires { 9 * i + 8 < length nodes.now }
