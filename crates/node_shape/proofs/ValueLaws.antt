@@ -2,7 +2,7 @@
 use mathlib.Core.Path.{◌≡◌, refl, sym, ap, ◌∙◌}
 use mathlib.Core.Bool.{Bool, true, false, ◌&&◌}
 use mathlib.Core.List.{List, [], ◌∷◌}
-use Prim.Native.Nat.{ℕ, suc, ◌+◌, ◌≤◌, ◌<◌}
+use Prim.Native.Nat.{ℕ, suc, ◌+◌, ◌≤◌}
 use native.Mathlib.Omega.{arith}
 use borrow.Author.Tests.{le-leb}
 use lib.Dec.{leb}
@@ -16,8 +16,8 @@ use Rattle.standard.specs.Table.{Node, terminal_of, key_code, key_length, datas_
 use Rattle.locks.specs.Leaves.{key_at}
 use Rattle.encoding.specs.Form.{keys_named}
 use Rattle.encoding.specs.Values.{value_refusal}
-use Rattle.node_shape.specs.Shapes.{key_refusal, locktime_refusal, thresh_refusal, multi_refusal, multi_a_refusal}
-use Rattle.node_shape.proofs.RowLaws.{one_of, valued_kind}
+use Rattle.node_shape.specs.Shapes.{multi_a_refusal}
+use Rattle.node_shape.proofs.RowLaws.{valued_kind}
 
 -- a test that was passed, or not
 pub first : {A : Type 0} (t : Bool) {b : Bool} (x y : A) → b ≡ t → b ≡ true → x ≡ pick t x y
@@ -51,23 +51,6 @@ multi_a_keys true material (o ∷ os) x y = ap (λ (b : Bool). pick (true && b) 
 multi_a_keys false material offsets x y = sym (ap (λ (b : Bool). pick b x y) (any_key (datas_at material offsets)))
 
 module _ (segwit : Bool) (material keys : List ℕ) (n : Node) where
-  pub key_kind : {r : ℕ} → n.kind ≡ 3 → r ≡ key_refusal segwit material n.place → r ≡ value_refusal segwit material keys n
-  unfolding terminal_of
-  key_kind e h = valued_kind segwit material keys n 3 e h
-
-  -- after is 6, older 7
-  pub time_kind : {r : ℕ} → 6 ≤ n.kind → n.kind < 8 → r ≡ locktime_refusal n.number → r ≡ value_refusal segwit material keys n
-  unfolding terminal_of
-  time_kind {r} l h e = one_of (λ k. n.kind ≡ k → r ≡ value_refusal segwit material keys n) 2 6 n.kind (λ i. valued_kind segwit material keys n 6 i e, (λ i. valued_kind segwit material keys n 7 i e, tt)) l h refl
-
-  pub thresh_kind_lem : {r : ℕ} → n.kind ≡ 26 → r ≡ thresh_refusal n.number n.count → r ≡ value_refusal segwit material keys n
-  unfolding terminal_of
-  thresh_kind_lem e h = valued_kind segwit material keys n 26 e h
-
-  pub multi_kind : {r : ℕ} → n.kind ≡ 27 → r ≡ multi_refusal segwit material keys n.place n.number n.count → r ≡ value_refusal segwit material keys n
-  unfolding terminal_of
-  multi_kind e h = valued_kind segwit material keys n 27 e h
-
   named_length : n.place + n.count ≤ length keys → length (keys_named n keys) ≡ n.count
   named_length inside = length-take-le n.count (drop n.place keys) (omega (arith, length-drop n.place keys))
 

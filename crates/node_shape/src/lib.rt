@@ -106,16 +106,16 @@ fn key_code(segwit: bool) -> u32
 }
 
 // What a node of this kind holds; 0, 4 and all above 28 are no kinds.
+#[tactic(auto, unfolding(standard::specs::Table::terminal_of))]
 pub fn shape_of(segwit: bool, kind: u32) -> Option<Shape>
     ensures { shape_told result ≡ shape_of segwit (terminal_of kind) }
 {
     match kind {
         kind::TRUE | kind::FALSE => Some(parent(0)),
         kind::PK_K => Some(with_data(key_length(segwit))),
-        kind::RAW_PK_H => Some(with_data(20)),
+        kind::RAW_PK_H | kind::RIPEMD160 | kind::HASH160 => Some(with_data(20)),
         kind::AFTER | kind::OLDER => Some(with_number(false, 0)),
         kind::SHA256 | kind::HASH256 => Some(with_data(32)),
-        kind::RIPEMD160 | kind::HASH160 => Some(with_data(20)),
         kind::ALT..=kind::ZERO_NOT_EQUAL => Some(parent(1)),
         kind::AND_V | kind::AND_B => Some(parent(2)),
         kind::AND_OR => Some(parent(3)),
@@ -255,6 +255,7 @@ fn multi_a_refusal(segwit: bool, k: u32, n: u32) -> Result<(), ValueError>
 }
 
 // Whether a node's values are allowed.
+#[tactic(auto, unfolding(standard::specs::Table::terminal_of, encoding::specs::Values::value_refusal))]
 pub fn value_refusal(segwit: bool, n: Node, keys: &[u32], material: &[u8]) -> Result<(), ValueError>
     requires { 27 ≤ n.kind → n.place + n.count ≤ length keys.now }
     ensures { refusal_told result ≡ value_refusal segwit material.now keys.now (node_of n) }

@@ -25,15 +25,15 @@ pub enum Ending {
 }
 
 // The opcodes with a verifying form are EQUAL, NUMEQUAL, CHECKSIG and CHECKMULTISIG.
+#[tactic(auto, unfolding(standard::specs::Table::terminal_of))]
 fn ending_of(kind: u32) -> Ending
     ensures { result ≡ ending_of (terminal_of kind) }
 {
     match kind {
         kind::SHA256 | kind::HASH256 | kind::RIPEMD160 | kind::HASH160 => Ending::Fusible,
+        kind::CHECK | kind::THRESH | kind::MULTI | kind::MULTI_A => Ending::Fusible,
         kind::SWAP => Ending::OfFirst,
-        kind::CHECK => Ending::Fusible,
         kind::AND_V => Ending::OfSecond,
-        kind::THRESH | kind::MULTI | kind::MULTI_A => Ending::Fusible,
         _ => Ending::Plain,
     }
 }
@@ -68,6 +68,7 @@ fn ends_fusible(nodes: &[u32], m: usize) -> bool
 }
 
 // The push of a number: 0 to 16 have opcodes, any other is pushed by its digits.
+#[tactic(auto, unfolding(spelling::specs::Spell::number_bytes, spelling::specs::Spell::digits))]
 fn number_bytes(n: u32) -> usize
     ensures { result ≡ length (number_bytes n) }
 {
@@ -123,7 +124,8 @@ fn multi_a_bytes(k: u32, n: u32) -> usize
     34 * (n as usize) + number_bytes(k) + 1
 }
 
-// What node number i adds to the script besides its children.
+// What node number i adds to the script besides its children: a table by kind, in the order of the kinds.
+#[tactic(auto, unfolding(standard::specs::Table::terminal_of, crate::specs::Length::added_bytes))]
 fn own_bytes(segwit: bool, nodes: &[u32], i: usize) -> usize
     requires { 9 * i + 8 < length nodes.now }
     ensures { Counts result (added_bytes segwit (node_at nodes.now i) (newest (node_at nodes.now) i)) }

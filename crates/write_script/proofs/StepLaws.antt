@@ -243,10 +243,3 @@ module _ (segwit : Bool) (nodes keys material : List ℕ) where
 -- the pieces in use lie within the table
 pub work_inside : (segwit : Bool) (nodes keys material before all work out : List ℕ) (s : State) → GoingOn segwit nodes keys material before all work out s → s.work ≤ length work
 work_inside segwit nodes keys material before all work out s g = omega (arith, g.room, g.enough, many_sizes g.trees)
-
--- what holds by a state's other name
-pub kept_as : (segwit : Bool) (nodes keys material before all work out : List ℕ) (s : State) (work' out' : List ℕ) (q r : State) → r ≡ q
-    → GoingOn segwit nodes keys material before all work' out' q × (to_write (pieces_in material work' q.work) q.left < to_write (pieces_in material work s.work) s.left)
-    → GoingOn segwit nodes keys material before all work' out' r × (to_write (pieces_in material work' r.work) r.left < to_write (pieces_in material work s.work) s.left)
-kept_as segwit nodes keys material before all work out s work' out' q r e h =
-    subst (λ (x : State). GoingOn segwit nodes keys material before all work' out' x × (to_write (pieces_in material work' x.work) x.left < to_write (pieces_in material work s.work) s.left)) (sym e) h
