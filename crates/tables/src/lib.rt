@@ -1,4 +1,4 @@
-// What every layer shares: the definitions in specs/, their laws in proofs/, clearing a lent table, and a number as a length.
+// What every layer shares: the definitions in specs/, their laws in proofs/, and clearing a lent table.
 #![tactic(auto)]
 
 ghost use Rattle.std.specs.Prelude.{◌≡◌, length};
@@ -11,16 +11,10 @@ pub fn clear(t: &mut [u32])
     t.fill(0);
 }
 
-// Zeros throughout, in a work table, whose entries are 64-bit numbers.
+// Zeros throughout, in a work table, whose entries are 64-bit numbers. A function of its own: one over both widths would take a
+// trait for their zero, and is no plainer than the one line.
 pub fn clear_work(work: &mut [u64])
     ensures { work.new ≡ zeros (length work.old) }
 {
     work.fill(0);
-}
-
-// A number of 32 bits as a length or an index.
-pub fn long(x: u32) -> usize
-    ensures { result ≡ x }
-{
-    x as usize
 }

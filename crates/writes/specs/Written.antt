@@ -28,10 +28,6 @@ stop_of_row e = record { number = e.number; reason = 0; left = e.left }
 abbrev pub stopped : State → ℕ → ℕ → Step
 stopped s number reason = Err (stop_of s number reason)
 
--- the earlier of two refusals; 0 is none
-abbrev pub earlier_of : ℕ → ℕ → ℕ
-earlier_of a b = pick (eqb a 0) b a
-
 -- entries with these numbers, on top of those in use: 17, and nothing is written, if they don't fit
 abbrev pub enters_step : ℕ → State → ℕ → Step
 enters_step room s more = pick (leb (s.work + more) room) (Ok (counts s.left (s.work + more) s.nodes s.keys)) (stopped s 17 0)

@@ -9,7 +9,7 @@ ghost use Rattle.judge.specs.Nodes.{new_leaf};
 ghost use Rattle.judge.specs.NodeTable.{node_of, making_of};
 ghost use Rattle.work_list.specs.Work.{packed, AllSmall};
 ghost use Rattle.node_store.specs.Offsets.{Low};
-ghost use Rattle.writes.specs.Written.{stop_of, stop_of_row, earlier_of, Enters, Stores, Finishes, Verified, Leaves, Keyed};
+ghost use Rattle.writes.specs.Written.{stop_of, stop_of_row, Enters, Stores, Finishes, Verified, Leaves, Keyed};
 
 use judge::Node;
 use node_store::KeyTokens;
@@ -55,16 +55,6 @@ impl From<Refused> for Stop {
             left: e.left,
         }
     }
-}
-
-// The earlier of two refusals, in document 01's order, for the encoder: a refusal is a number, and 0 is none.
-pub fn earlier(a: u32, b: u32) -> u32
-    ensures { result ≡ earlier_of a b }
-{
-    if a == 0 {
-        return b;
-    }
-    a
 }
 
 // 15 if there is no room for one node more.
