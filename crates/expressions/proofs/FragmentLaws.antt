@@ -14,7 +14,7 @@ use Rattle.standard.specs.Rows.{inExpression, Act, make, refuse, cases}
 use Rattle.row.specs.declared.Row.TheVariants as row
 use Rattle.row.specs.declared.Found.{Found}
 use Rattle.row.specs.declared.Refused.{Refused}
-use Rattle.row.specs.declared.Taken.{Taken}
+use Rattle.row.specs.declared.table.Taken.{Taken}
 use Rattle.row.specs.Tokens.{lexemes_left}
 use Rattle.row.specs.Next.{IsTaken}
 use Rattle.row.specs.Request.{refused, leaf_node, reading, asked_at, refused_at, reading_of}

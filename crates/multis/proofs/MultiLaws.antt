@@ -19,7 +19,7 @@ use Rattle.standard.specs.Rows.{Point, multi_keys, Act, read_on, refuse, makes, 
 use Rattle.row.specs.declared.Row.TheVariants as row
 use Rattle.row.specs.declared.Found.{Found}
 use Rattle.row.specs.declared.Refused.{Refused}
-use Rattle.row.specs.declared.Taken.{Taken}
+use Rattle.row.specs.declared.table.Taken.{Taken}
 use Rattle.row.specs.declared.table.Tokens.{Tokens}
 use Rattle.row.specs.Next.{IsTaken}
 use Rattle.row.specs.Tokens.{token_at, lexemes_left}

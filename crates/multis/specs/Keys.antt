@@ -9,7 +9,7 @@ use Rattle.standard.specs.Rows.{Point, multi_keys, multiAKeys}
 use Rattle.row.specs.declared.Row.TheVariants as row
 use Rattle.row.specs.declared.Found.{Found}
 use Rattle.row.specs.declared.Refused.{Refused}
-use Rattle.row.specs.declared.Taken.{Taken}
+use Rattle.row.specs.declared.table.Taken.{Taken}
 use Rattle.row.specs.declared.table.Tokens.{Tokens}
 use Rattle.row.specs.Tokens.{token_at, lexemes_left}
 use Rattle.row.specs.Request.{refused, Reading, reading, asked_at, refused_at, reading_of}

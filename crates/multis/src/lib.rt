@@ -50,7 +50,6 @@ fn multi_threshold(tokens: Tokens, n: u32) -> Result<Found, Refused>
 
 // The key form in a multi: 11 unless it is segwit's, in segwit.
 fn multi_form(segwit: bool, script: &[u8], token: Taken) -> Result<(), Refused>
-    requires { token.place < 2147483648 }
     ensures { result ≡ form_refusal (multi_key segwit (key_at script.now token.entry.code (token.entry.place + 1))) token.entry.rest.left }
 {
     if segwit && key_form(segwit, script, token.code, token.place + 1) {
@@ -65,7 +64,6 @@ fn multi_form(segwit: bool, script: &[u8], token: Taken) -> Result<(), Refused>
 // A key of a multi: 10 unless it is a push of 33 or 65 bytes.
 #[tactic(auto, unfolding(crate::specs::Keys::key_refusal))]
 fn multi_key(segwit: bool, script: &[u8], token: Taken) -> Result<(), Refused>
-    requires { token.place < 2147483648 }
     ensures { result ≡ key_refusal segwit script.now token.entry }
 {
     match token.code {

@@ -14,7 +14,7 @@ use Rattle.standard.specs.Rows.{NonTerm, Expression, Point, Act, read_on, put_ba
 use Rattle.row.specs.declared.Row.{Row}
 use Rattle.row.specs.declared.Found.{Found}
 use Rattle.row.specs.declared.Refused.{Refused}
-use Rattle.row.specs.declared.Taken.{Taken}
+use Rattle.row.specs.declared.table.Taken.{Taken}
 use Rattle.row.specs.Tokens.{token_at, lexemes_left}
 use Rattle.row.specs.Next.{IsTaken}
 use Rattle.row.specs.Request.{Request, refused, entries, Reading, reading, reading_asked, request_of, asked_at, refused_at, reading_of}

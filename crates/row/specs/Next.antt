@@ -1,6 +1,6 @@
 -- For the proof: the token that is taken next, read off the token table.
 use Rattle.std.specs.Prelude.{◌≡◌, List, ℕ, suc, ◌+◌, ◌*◌, get_or, Result, Ok, Err}
-use Rattle.row.specs.declared.Taken.{Taken}
+use Rattle.row.specs.declared.table.Taken.{Taken}
 use Rattle.row.specs.declared.Refused.{Refused}
 
 -- the last of the tokens left, and those before it, in the same table

@@ -10,7 +10,7 @@ ghost use Rattle.row.specs.Request.{asked_at, refused_at};
 pub mod kind;
 pub mod table;
 
-pub use table::Tokens;
+pub use table::{Taken, Tokens};
 
 // The codes of tokens, for the rows above.
 pub use lex::token;
@@ -98,15 +98,6 @@ pub struct Found {
 pub struct Refused {
     pub number: u32,
     pub left: usize,
-}
-
-// The next token, and the tokens left once it is taken.
-#[derive(Clone, Copy)]
-pub struct Taken<'a> {
-    pub code: u32,
-    pub number: u32,
-    pub place: u32,
-    pub rest: Tokens<'a>,
 }
 
 impl<'a> Tokens<'a> {

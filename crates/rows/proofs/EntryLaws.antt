@@ -14,7 +14,7 @@ use Rattle.row.specs.declared.Row.{Row}
 use Rattle.row.specs.declared.Row.TheVariants as row
 use Rattle.row.specs.declared.Found.{Found}
 use Rattle.row.specs.declared.Refused.{Refused}
-use Rattle.row.specs.declared.Taken.{Taken}
+use Rattle.row.specs.declared.table.Taken.{Taken}
 use Rattle.row.specs.Tokens.{lexemes_left}
 use Rattle.row.specs.Next.{IsTaken}
 use Rattle.row.specs.Request.{entries, Reading, reading, reading_asked, entry_of, counted, asked_at, reading_of}
