@@ -5,7 +5,8 @@ use mathlib.Core.List.{List, [], ◌∷◌, ◌++◌}
 use Prim.Native.Nat.{ℕ, suc, ◌+◌, ◌-◌, ◌≤◌, ◌<◌}
 use native.Mathlib.Omega.{arith}
 use lib.ListN.{length, take, drop, length-drop, drop_of_length-le}
-use lib.Seq.{length-take-le, drop-drop}
+use lib.Seq.{drop-drop}
+use Rattle.std.proofs.Math.Seq.{take-length}
 use Rattle.hex_line.specs.declared.Line.{Line}
 use Rattle.hex_line.specs.declared.Line.TheVariants.{Nothing}
 use Rattle.hex_line.specs.Feeding.{Fed, fed, feed_all, of_line, Stopped, stopped, line_fed, told_of, untouched, told_in, left_by}
@@ -16,9 +17,6 @@ use Rattle.reply.specs.Program.{text_of, texts_of}
 use Rattle.clerk.specs.declared.Hand.{Hand}
 use Rattle.clerk.specs.Owed.{line_count, owed, leaves, due, started}
 use Rattle.clerk.proofs.LayingLaws.{none_left, all_left}
-
-pub part_length : (input : List ℕ) (n : ℕ) → n ≤ 4096 → 4096 ≡ length input → length (take n input) ≡ n
-part_length input n h l = length-take-le n input (omega arith)
 
 -- where feeding a line stopped
 stopped_at : (part : List ℕ) (i : ℕ) (f g : Fed) (at : ℕ) → stopped g at ≡ line_fed part i f → (g ≡ feed_all (of_line (drop i part)) f) × (at ≡ i + length (of_line (drop i part)))
@@ -63,31 +61,30 @@ Takes hand n part script r after nodes keys =
     × (leaves r part after ≡ leaves hand part script)
     × (owed r part after nodes keys ≡ texts_of (told_in (fed hand.line script) (drop hand.at part)))
 
-pub part_ended : (input : List ℕ) (n : ℕ) (hand : Hand) (script nodes keys : List ℕ) (line : Line) (after : List ℕ) (at used : ℕ) → 4096 ≡ length input → n ≤ 4096
-    → line_count hand.header ≤ hand.next → hand.at < n
-    → stopped (fed line after) at ≡ line_fed (take n input) hand.at (fed hand.line script) → n ≤ at
-    → Takes hand n (take n input) script (record { line = line; at = n; header = hand.header; next = hand.next; used = used }) after nodes keys
-part_ended input n hand script nodes keys line after at used l s whole w e h =
-    let part : List ℕ = take n input in
-    let p : length part ≡ n = part_length input n s l in
-    let g : _ = goes_on part hand.at (fed hand.line script) (fed line after) at e (omega arith) (omega arith) in
-    let d : drop n part ≡ [] = drop_of_length-le part {i = n} (omega arith) in (
+-- the whole part is fed
+all_fed : (part : List ℕ) (i : ℕ) (f g : Fed) (at : ℕ) → stopped g at ≡ line_fed (take (length part) part) i f → stopped g at ≡ line_fed part i f
+all_fed part i f g at e = e ∙ ap (λ (bytes : List ℕ). line_fed bytes i f) (take-length part)
+
+pub part_ended : (part : List ℕ) (hand : Hand) (script nodes keys : List ℕ) (line : Line) (after : List ℕ) (at used : ℕ) → line_count hand.header ≤ hand.next → hand.at < length part
+    → stopped (fed line after) at ≡ line_fed (take (length part) part) hand.at (fed hand.line script) → length part ≤ at
+    → Takes hand (length part) part script (record { line = line; at = length part; header = hand.header; next = hand.next; used = used }) after nodes keys
+part_ended part hand script nodes keys line after at used whole w e h =
+    let g : _ = goes_on part hand.at (fed hand.line script) (fed line after) at (all_fed part hand.at (fed hand.line script) (fed line after) at e) h (omega arith) in
+    let d : drop (length part) part ≡ [] = drop_of_length-le part {i = length part} (omega arith) in (
       w,
       omega arith,
       ap (left_by (fed line after)) d ∙ sym g.1,
-      ap (λ (rest : List ℕ). rest ++ texts_of (told_in (fed line after) (drop n part))) (none_left hand.header nodes keys hand.next whole)
+      ap (λ (rest : List ℕ). rest ++ texts_of (told_in (fed line after) (drop (length part) part))) (none_left hand.header nodes keys hand.next whole)
           ∙ ap (λ (rest : List ℕ). texts_of (told_in (fed line after) rest)) d
           ∙ ap texts_of (sym g.0),
     )
 
-pub line_ended : (input : List ℕ) (n : ℕ) (hand : Hand) (script nodes keys : List ℕ) (line : Line) (after : List ℕ) (at used : ℕ) (header : Header) → 4096 ≡ length input → n ≤ 4096
-    → hand.at < n
-    → stopped (fed line after) at ≡ line_fed (take n input) hand.at (fed hand.line script) → at < n → listing header nodes keys ≡ text_of (told_of (fed line after))
-    → Takes hand n (take n input) script (record { line = Nothing; at = at + 1; header = header; next = 0; used = 0 }) after nodes keys
-line_ended input n hand script nodes keys line after at used header l s w e h t =
-    let part : List ℕ = take n input in
-    let p : length part ≡ n = part_length input n s l in
-    let g : _ = ends part hand.at (fed hand.line script) (fed line after) at e (omega arith) (omega arith) in (
+pub line_ended : (part : List ℕ) (hand : Hand) (script nodes keys : List ℕ) (line : Line) (after : List ℕ) (at used : ℕ) (header : Header) → hand.at < length part
+    → stopped (fed line after) at ≡ line_fed (take (length part) part) hand.at (fed hand.line script) → at < length part
+    → listing header nodes keys ≡ text_of (told_of (fed line after))
+    → Takes hand (length part) part script (record { line = Nothing; at = at + 1; header = header; next = 0; used = 0 }) after nodes keys
+line_ended part hand script nodes keys line after at used header w e h t =
+    let g : _ = ends part hand.at (fed hand.line script) (fed line after) at (all_fed part hand.at (fed hand.line script) (fed line after) at e) h (omega arith) in (
       omega (arith, g.0),
       omega arith,
       sym g.2,

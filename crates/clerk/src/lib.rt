@@ -76,21 +76,15 @@ fn is_ready(hand: Hand, n: usize) -> bool
 }
 
 // The line at hand, up to its line feed or the end of the part. If it ends, its listing is the one to be laid out now.
-fn take_line(
-    hand: Hand,
-    input: &[u8; 4096],
-    n: usize,
-    script: &mut [u8; 520],
-    tables: &mut Tables,
-) -> Hand
-    requires { (n ≤ 4096) × Ready hand n }
-    ensures { (hand.at < result.at) × (result.at ≤ n) × (leaves result (take n input.now) script.new ≡ leaves hand (take n input.now) script.old) × (owed result (take n input.now) script.new tables.new.nodes tables.new.keys ≡ texts_of (told_in (fed hand.line script.old) (drop hand.at (take n input.now)))) }
+fn take_line(hand: Hand, part: &[u8], script: &mut [u8; 520], tables: &mut Tables) -> Hand
+    requires { Ready hand (length part.now) }
+    ensures { (hand.at < result.at) × (result.at ≤ length part.now) × (leaves result part.now script.new ≡ leaves hand part.now script.old) × (owed result part.now script.new tables.new.nodes tables.new.keys ≡ texts_of (told_in (fed hand.line script.old) (drop hand.at part.now))) }
 {
-    let stop = hex_line::feed_line(hand.line, input, hand.at, n, script);
-    if n <= stop.at {
+    let stop = hex_line::feed_line(hand.line, part, hand.at, part.len(), script);
+    if part.len() <= stop.at {
         return Hand {
             line: stop.line,
-            at: n,
+            at: part.len(),
             used: 0,
             ..hand
         };
@@ -104,22 +98,21 @@ fn take_line(
     }
 }
 
-// Lays out as much as fits of what is owed for a part of the input, its first n bytes. A turn that lays out nothing owes nothing any more.
+// Lays out as much as fits of what is owed for a part of the input. A turn that lays out nothing owes nothing any more.
 pub fn turn(
     hand: Hand,
-    input: &[u8; 4096],
-    n: usize,
+    part: &[u8],
     script: &mut [u8; 520],
     tables: &mut Tables,
     out: &mut [u8; 8192],
 ) -> Hand
-    requires { (n ≤ 4096) × (hand.at ≤ n) × (hand.used ≡ 0) }
-    ensures { (result.at ≤ n) × (result.used ≤ 8192) × (result.used ≡ 0 → Answered result n) × (leaves result (take n input.now) script.new ≡ leaves hand (take n input.now) script.old) × (take result.used out.new ++ owed result (take n input.now) script.new tables.new.nodes tables.new.keys ≡ owed hand (take n input.now) script.old tables.old.nodes tables.old.keys) }
+    requires { (hand.at ≤ length part.now) × (hand.used ≡ 0) }
+    ensures { (result.at ≤ length part.now) × (result.used ≤ 8192) × (result.used ≡ 0 → Answered result (length part.now)) × (leaves result part.now script.new ≡ leaves hand part.now script.old) × (take result.used out.new ++ owed result part.now script.new tables.new.nodes tables.new.keys ≡ owed hand part.now script.old tables.old.nodes tables.old.keys) }
 {
     let mut held = lay_out(hand, 0, &tables.nodes, &tables.keys, out);
-    while is_ready(held, n) {
+    while is_ready(held, part.len()) {
         let used = held.used;
-        let taken = take_line(held, input, n, script, tables);
+        let taken = take_line(held, part, script, tables);
         held = lay_out(taken, used, &tables.nodes, &tables.keys, out);
     }
     held

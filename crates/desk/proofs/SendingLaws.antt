@@ -1,9 +1,9 @@
 -- Turn after turn of the clerk, each written and crossed off before the next: the line that the part leaves open stays the same, and so does what was written, with what waits and what is still owed. Assumes nothing.
 use mathlib.Core.Path.{◌≡◌, refl, sym, ap, subst, ◌∙◌}
 use mathlib.Core.List.{List, [], ◌++◌, append_assoc}
-use Prim.Native.Nat.{ℕ, ◌+◌, ◌-◌, ◌≤◌, ◌<◌, min}
+use Prim.Native.Nat.{ℕ, ◌+◌, ◌-◌, ◌≤◌, ◌<◌}
 use native.Mathlib.Omega.{arith}
-use lib.ListN.{length, take, drop, length-append, length-take, drop_of_length-le}
+use lib.ListN.{length, take, drop, length-append, drop_of_length-le}
 use lib.Seq.{length-take-le}
 use Rattle.calls.specs.declared.Wrote.{Wrote}
 use Rattle.hex_line.specs.Feeding.{Fed, fed, left_by}
@@ -85,12 +85,11 @@ lighter n part text left hand script nodes keys out r script₁ nodes₁ keys₁
     omega (arith, f, a, e)
 
 -- a turn that laid out nothing is the last: nothing is owed, and the line at hand is the one that the part leaves open
-pub sent : (n : ℕ) (input text : List ℕ) (left : Fed) (hand : Hand) (script nodes keys out : List ℕ) → Sending n (take n input) text left hand script nodes keys out
+pub sent : (part text : List ℕ) (left : Fed) (hand : Hand) (script nodes keys out : List ℕ) → Sending (length part) part text left hand script nodes keys out
     → hand.used ≤ 0 → fed hand.line script ≡ left
-sent n input text left hand script nodes keys out s u =
-    let a : Answered hand n = s.idle (omega arith) in
-    let m : length (take n input) ≡ min n (length input) = length-take n input in
-    let d : drop hand.at (take n input) ≡ [] = drop_of_length-le (take n input) {i = hand.at} (omega (arith, a.1, m)) in
+sent part text left hand script nodes keys out s u =
+    let a : Answered hand (length part) = s.idle (omega arith) in
+    let d : drop hand.at part ≡ [] = drop_of_length-le part {i = hand.at} a.1 in
     ap (left_by (fed hand.line script)) (sym d) ∙ s.leaving
 
 -- What is left of a turn while its bytes are written: the same hand, with fewer bytes that wait.

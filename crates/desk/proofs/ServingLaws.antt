@@ -1,10 +1,8 @@
 -- Part after part of the input: how far the line at hand has been read is what all parts so far leave, cut as they were. Assumes nothing.
 use mathlib.Core.Path.{◌≡◌, refl, sym, ap, ◌∙◌}
 use mathlib.Core.List.{List, [], ◌∷◌, ◌++◌}
-use Prim.Native.Nat.{ℕ, ◌≤◌, ◌<◌}
-use native.Mathlib.Omega.{arith}
-use lib.ListN.{length, take}
-use lib.Seq.{length-take-le}
+use Prim.Native.Nat.{ℕ, ◌<◌}
+use lib.ListN.{length}
 use Rattle.hex_line.specs.declared.Line.{Line}
 use Rattle.hex_line.specs.Feeding.{Fed, fed, left_by}
 use Rattle.clerk.specs.declared.Hand.{Hand}
@@ -40,13 +38,9 @@ also P Q (Ok hand) f s = f hand s
 also P Q (Err failed) f s = s
 
 -- what `receive` and `write_out` ensure together
-pub part_sent : (line : Line) (n : ℕ) (input script nodes keys : List ℕ) (hand : Hand) (script₁ : List ℕ) (r : Result Hand Failed) → n ≤ length input
-    → ((bytes : List ℕ) → length bytes ≡ n → (owed hand bytes script nodes keys ≡ due (fed line script) bytes) × (0 < n → leaves hand bytes script ≡ left_by (fed line script) bytes))
-    → Sends r (λ (left : Hand). fed left.line script₁ ≡ leaves hand (take n input) script)
-    → Sends r (λ (left : Hand). 0 < n → fed left.line script₁ ≡ left_by (fed line script) (take n input))
-part_sent line n input script nodes keys hand script₁ r l told = also _ _ r left
-  where
-    left : (h : Hand) → fed h.line script₁ ≡ leaves hand (take n input) script → 0 < n → fed h.line script₁ ≡ left_by (fed line script) (take n input)
-    left h w some =
-        let m : length (take n input) ≡ n = length-take-le n input (omega (arith, l)) in
-        w ∙ (told (take n input) m).1 (omega (arith, some))
+pub part_sent : (line : Line) (part script nodes keys : List ℕ) (hand : Hand) (script₁ : List ℕ) (r : Result Hand Failed)
+    → ((bytes : List ℕ) → length bytes ≡ length part
+    → (owed hand bytes script nodes keys ≡ due (fed line script) bytes) × (0 < length part → leaves hand bytes script ≡ left_by (fed line script) bytes))
+    → Sends r (λ (left : Hand). fed left.line script₁ ≡ leaves hand part script)
+    → Sends r (λ (left : Hand). 0 < length part → fed left.line script₁ ≡ left_by (fed line script) part)
+part_sent line part script nodes keys hand script₁ r told = also _ _ r (λ h w some. w ∙ (told part refl).1 some)

@@ -22,7 +22,7 @@
 //   in all                                  53,960, under 64 KiB (65,536)
 #![tactic(auto)]
 
-ghost use Rattle.std.specs.Prelude.{◌≡◌, ◌≤◌, ◌<◌, length, take};
+ghost use Rattle.std.specs.Prelude.{◌≡◌, ◌≤◌, ◌<◌, length};
 ghost use Rattle.hex_line.specs.Feeding.{fed, left_by};
 ghost use Rattle.clerk.specs.declared.Hand.{Hand};
 ghost use Rattle.clerk.specs.Owed.{leaves, laid};
@@ -51,38 +51,35 @@ fn write_front(rt: HostRuntime, out: &[u8], hand: Hand) -> Result<Hand, Failed>
 fn write_out(
     rt: HostRuntime,
     hand: Hand,
-    input: &[u8; 4096],
-    n: usize,
+    part: &[u8],
     script: &mut [u8; 520],
     tables: &mut Tables,
     out: &mut [u8; 8192],
 ) -> Result<Hand, Failed>
-    requires { (n ≤ 4096) × (hand.at ≤ n) × (hand.used ≡ 0) }
-    ensures { Sends result (λ (left : Hand). fed left.line script.new ≡ leaves hand (take n input.now) script.old) }
+    requires { (hand.at ≤ length part.now) × (hand.used ≡ 0) }
+    ensures { Sends result (λ (left : Hand). fed left.line script.new ≡ leaves hand part.now script.old) }
 {
-    let mut held = clerk::turn(hand, input, n, script, tables, out);
+    let mut held = clerk::turn(hand, part, script, tables, out);
     while held.used > 0 {
         let left = write_front(rt, out, held)?;
-        held = clerk::turn(left, input, n, script, tables, out);
+        held = clerk::turn(left, part, script, tables, out);
     }
     Ok(held)
 }
 
-// One part of the input, of n bytes, with the line that was open before it: answered and written. None says that the input has ended.
+// One part of the input, with the line that was open before it: answered and written. No bytes say that the input has ended.
 fn answer_part(
     rt: HostRuntime,
     line: Line,
-    input: &[u8; 4096],
-    n: usize,
+    part: &[u8],
     script: &mut [u8; 520],
     tables: &mut Tables,
     out: &mut [u8; 8192],
 ) -> Result<Hand, Failed>
-    requires { n ≤ 4096 }
-    ensures { Sends result (λ (left : Hand). 0 < n → fed left.line script.new ≡ left_by (fed line script.old) (take n input.now)) }
+    ensures { Sends result (λ (left : Hand). 0 < length part.now → fed left.line script.new ≡ left_by (fed line script.old) part.now) }
 {
-    let hand = clerk::receive(line, n, script, tables);
-    write_out(rt, hand, input, n, script, tables, out)
+    let hand = clerk::receive(line, part.len(), script, tables);
+    write_out(rt, hand, part, script, tables, out)
 }
 
 // Standard input, part by part to its end, with these tables.
@@ -100,11 +97,11 @@ fn serve(
     loop {
         match calls::next(rt, &mut reads, &mut input) {
             Ok(part) => {
-                let left = answer_part(rt, line, &input, part.size(), script, tables, out)?;
+                let left = answer_part(rt, line, &input[..part.size()], script, tables, out)?;
                 line = left.line;
             }
             Err(ended) => {
-                answer_part(rt, line, &input, 0, script, tables, out)?;
+                answer_part(rt, line, &[], script, tables, out)?;
                 return Ok(ended);
             }
         }

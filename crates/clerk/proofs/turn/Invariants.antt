@@ -3,13 +3,13 @@ use Prim.Native.Nat.{◌-◌}
 use Rattle.clerk.proofs.TurningLaws.{Turning}
 use Rattle.clerk.proofs.turn.Given as goal
 use Rattle.clerk.specs.Owed.{owed, leaves}
-use lib.ListN.{take}
+use lib.ListN.{length, take}
 use mathlib.Core.List.{◌++◌}
 
 abbrev pub invariant-loop-used : goal.invariant-loop-used
 invariant-loop-used l =
-    Turning (take l.n l.input) l.n (take l.initial.held.used l.initial.out ++ owed l.initial.held (take l.n l.input) l.initial.script l.initial.tables.nodes l.initial.tables.keys) (leaves l.initial.held (take l.n l.input) l.initial.script) l.held l.script l.tables.nodes l.tables.keys l.out
+    Turning l.part (length l.part) (take l.initial.held.used l.initial.out ++ owed l.initial.held l.part l.initial.script l.initial.tables.nodes l.initial.tables.keys) (leaves l.initial.held l.part l.initial.script) l.held l.script l.tables.nodes l.tables.keys l.out
 
 abbrev pub decreases-loop-used : goal.decreases-loop-used
 decreases-loop-used l =
-    l.n - l.held.at
+    length l.part - l.held.at

@@ -8,8 +8,8 @@ use mathlib.Core.List.{◌++◌}
 
 abbrev pub invariant-loop-held : goal.invariant-loop-held
 invariant-loop-held l =
-    Sending l.n (take l.n l.input) (take l.initial.held.used l.initial.out ++ owed l.initial.held (take l.n l.input) l.initial.script l.initial.tables.nodes l.initial.tables.keys) (leaves l.initial.held (take l.n l.input) l.initial.script) l.held l.script l.tables.nodes l.tables.keys l.out
+    Sending (length l.part) l.part (take l.initial.held.used l.initial.out ++ owed l.initial.held l.part l.initial.script l.initial.tables.nodes l.initial.tables.keys) (leaves l.initial.held l.part l.initial.script) l.held l.script l.tables.nodes l.tables.keys l.out
 
 abbrev pub decreases-loop-held : goal.decreases-loop-held
 decreases-loop-held l =
-    length (owed l.held (take l.n l.input) l.script l.tables.nodes l.tables.keys) + length (take l.held.used l.out)
+    length (owed l.held l.part l.script l.tables.nodes l.tables.keys) + length (take l.held.used l.out)
