@@ -55,7 +55,7 @@ pub fn pk_k(
 fn locktime(n: u32) -> bool
     ensures { result ≡ allowed.locktime n }
 {
-    1 <= n && n <= 2147483647
+    (1..=2147483647).contains(&n)
 }
 
 #[tactic(auto, unfolding(crate::specs::Leaves::time_row))]

@@ -67,8 +67,7 @@ fn multi_key(segwit: bool, script: &[u8], token: Taken) -> Result<(), Refused>
     ensures { result ≡ key_refusal segwit script.now token.entry }
 {
     match token.code {
-        BYTES33 => multi_form(segwit, script, token),
-        BYTES65 => multi_form(segwit, script, token),
+        BYTES33 | BYTES65 => multi_form(segwit, script, token),
         _ => Err(Refused {
             number: 10,
             left: token.rest.left,
