@@ -16,7 +16,8 @@ pub enum Line {
     Nothing,
     // One digit, the first of the kind.
     HalfKind(u8),
-    // An even number of digits: the kind, and so many script bytes; 521 says that there are more than 520.
+    // An even number of digits: the kind, and so many script bytes; 521 says that there are more than 520. (A variant for that would need two
+    // more, for its digits: no plainer.)
     Whole { kind: u8, size: usize },
     // The same, and the first digit of one byte more.
     Half { kind: u8, size: usize, high: u8 },
