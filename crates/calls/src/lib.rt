@@ -85,6 +85,7 @@ pub fn next(rt: HostRuntime, reads: &mut Reads, input: &mut [u8; 4096]) -> Resul
     ensures none { IfErr result (λ ended. (ended.part.n ≡ 0) × (reads_left reads.new ≡ 0)) }
 {
     let mut stdin = rt.stdin();
+    // no `for` over a range: the count goes on with the next call
     while reads.left > 0 {
         reads.left -= 1;
         match stdin.read(input) {

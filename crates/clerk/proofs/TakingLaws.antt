@@ -4,9 +4,8 @@ use mathlib.Core.Bool.{Bool, true, false}
 use mathlib.Core.List.{List, [], ◌∷◌, ◌++◌}
 use Prim.Native.Nat.{ℕ, suc, ◌+◌, ◌-◌, ◌≤◌, ◌<◌}
 use native.Mathlib.Omega.{arith}
-use lib.ListN.{length, take, drop, length-drop, drop_of_length-le}
+use lib.ListN.{length, drop, length-drop, drop_of_length-le}
 use lib.Seq.{drop-drop}
-use Rattle.std.proofs.Math.Seq.{take-length}
 use Rattle.hex_line.specs.declared.Line.{Line}
 use Rattle.hex_line.specs.declared.Line.TheVariants.{Nothing}
 use Rattle.hex_line.specs.Feeding.{Fed, fed, feed_all, of_line, Stopped, stopped, line_fed, told_of, untouched, told_in, left_by}
@@ -61,15 +60,11 @@ Takes hand n part script r after nodes keys =
     × (leaves r part after ≡ leaves hand part script)
     × (owed r part after nodes keys ≡ texts_of (told_in (fed hand.line script) (drop hand.at part)))
 
--- the whole part is fed
-all_fed : (part : List ℕ) (i : ℕ) (f g : Fed) (at : ℕ) → stopped g at ≡ line_fed (take (length part) part) i f → stopped g at ≡ line_fed part i f
-all_fed part i f g at e = e ∙ ap (λ (bytes : List ℕ). line_fed bytes i f) (take-length part)
-
 pub part_ended : (part : List ℕ) (hand : Hand) (script nodes keys : List ℕ) (line : Line) (after : List ℕ) (at used : ℕ) → line_count hand.header ≤ hand.next → hand.at < length part
-    → stopped (fed line after) at ≡ line_fed (take (length part) part) hand.at (fed hand.line script) → length part ≤ at
+    → stopped (fed line after) at ≡ line_fed part hand.at (fed hand.line script) → length part ≤ at
     → Takes hand (length part) part script (record { line = line; at = length part; header = hand.header; next = hand.next; used = used }) after nodes keys
 part_ended part hand script nodes keys line after at used whole w e h =
-    let g : _ = goes_on part hand.at (fed hand.line script) (fed line after) at (all_fed part hand.at (fed hand.line script) (fed line after) at e) h (omega arith) in
+    let g : _ = goes_on part hand.at (fed hand.line script) (fed line after) at e h (omega arith) in
     let d : drop (length part) part ≡ [] = drop_of_length-le part {i = length part} (omega arith) in (
       w,
       omega arith,
@@ -80,11 +75,11 @@ part_ended part hand script nodes keys line after at used whole w e h =
     )
 
 pub line_ended : (part : List ℕ) (hand : Hand) (script nodes keys : List ℕ) (line : Line) (after : List ℕ) (at used : ℕ) (header : Header) → hand.at < length part
-    → stopped (fed line after) at ≡ line_fed (take (length part) part) hand.at (fed hand.line script) → at < length part
+    → stopped (fed line after) at ≡ line_fed part hand.at (fed hand.line script) → at < length part
     → listing header nodes keys ≡ text_of (told_of (fed line after))
     → Takes hand (length part) part script (record { line = Nothing; at = at + 1; header = header; next = 0; used = 0 }) after nodes keys
 line_ended part hand script nodes keys line after at used header w e h t =
-    let g : _ = ends part hand.at (fed hand.line script) (fed line after) at (all_fed part hand.at (fed hand.line script) (fed line after) at e) h (omega arith) in (
+    let g : _ = ends part hand.at (fed hand.line script) (fed line after) at e h (omega arith) in (
       omega (arith, g.0),
       omega arith,
       sym g.2,

@@ -80,7 +80,7 @@ fn take_line(hand: Hand, part: &[u8], script: &mut [u8; 520], tables: &mut Table
     requires { Ready hand (length part.now) }
     ensures { (hand.at < result.at) × (result.at ≤ length part.now) × (leaves result part.now script.new ≡ leaves hand part.now script.old) × (owed result part.now script.new tables.new.nodes tables.new.keys ≡ texts_of (told_in (fed hand.line script.old) (drop hand.at part.now))) }
 {
-    let stop = hex_line::feed_line(hand.line, part, hand.at, part.len(), script);
+    let stop = hex_line::feed_line(hand.line, part, hand.at, script);
     if part.len() <= stop.at {
         return Hand {
             line: stop.line,

@@ -1,7 +1,7 @@
 // What a line of hexadecimal means, read byte by byte, however long the line is: document 01, section "Program".
 #![tactic(auto)]
 
-ghost use Rattle.std.specs.Prelude.{◌≡◌, ◌+◌, ◌*◌, ◌%◌, ◌<◌, IfSome, take};
+ghost use Rattle.std.specs.Prelude.{◌≡◌, ◌+◌, ◌*◌, ◌%◌, ◌<◌, IfSome};
 ghost use Rattle.hex_line.specs.Digits.{digit_in};
 ghost use Rattle.hex_line.specs.Meant.{number_of};
 ghost use Rattle.hex_line.specs.Feeding.{fed, step, stopped, line_fed, ended, untouched};
@@ -16,7 +16,8 @@ pub enum Line {
     Nothing,
     // One digit, the first of the kind.
     HalfKind(u8),
-    // An even number of digits: the kind, and so many script bytes; 521 says that there are more than 520.
+    // An even number of digits: the kind, and so many script bytes; 521 says that there are more than 520. (A variant for that would need two
+    // more, for its digits: no plainer.)
     Whole { kind: u8, size: usize },
     // The same, and the first digit of one byte more.
     Half { kind: u8, size: usize, high: u8 },
@@ -117,20 +118,19 @@ pub struct Stop {
     pub at: usize,
 }
 
-// The bytes of an input from `from` on, up to a line feed, which isn't fed, or up to `to` or the input's end.
-pub fn feed_line(line: Line, input: &[u8], from: usize, to: usize, script: &mut [u8; 520]) -> Stop
-    ensures { stopped (fed result.line script.new) result.at ≡ line_fed (take to input.now) from (fed line script.old) }
+// The bytes of an input from `from` on, up to a line feed, which isn't fed, or up to the input's end.
+pub fn feed_line(line: Line, input: &[u8], from: usize, script: &mut [u8; 520]) -> Stop
+    ensures { stopped (fed result.line script.new) result.at ≡ line_fed input.now from (fed line script.old) }
 {
-    let end = to.min(input.len());
     let mut read = line;
-    for at in from..end {
+    for at in from..input.len() {
         let byte = input[at];
         if byte == b'\n' {
             return Stop { line: read, at };
         }
         read = feed(read, byte, script);
     }
-    let at = from.max(end);
+    let at = from.max(input.len());
     Stop { line: read, at }
 }
 

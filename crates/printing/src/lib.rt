@@ -37,7 +37,7 @@ fn size(x: usize) {
     space();
 }
 
-// The seven numbers of a reader's answer.
+// The seven numbers of a reader's answer. One by one, since this crate stands on none that has the answer's type.
 pub fn header(
     number: u32,
     reason: u32,

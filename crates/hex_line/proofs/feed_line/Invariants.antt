@@ -2,9 +2,9 @@
 use Prim.Native.Nat.{◌≤◌, max}
 use Rattle.hex_line.proofs.feed_line.Given as goal
 use Rattle.hex_line.specs.Feeding.{fed, line_fed}
-use lib.ListN.{take}
+use lib.ListN.{length}
 use mathlib.Core.Path.{◌≡◌}
 
 abbrev pub invariant-loop-at : goal.invariant-loop-at
 invariant-loop-at l =
-    (line_fed (take l.to l.input) l.from (fed l.initial.read l.initial.script) ≡ line_fed (take l.to l.input) l.at (fed l.read l.script)) × (l.at ≤ max l.from l.end)
+    (line_fed l.input l.from (fed l.initial.read l.initial.script) ≡ line_fed l.input l.at (fed l.read l.script)) × (l.at ≤ max l.from (length l.input))
