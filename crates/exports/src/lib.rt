@@ -69,17 +69,19 @@ pub struct Part {
     pub bytes: usize,
 }
 
-fn answered(a: decode::Answer) -> Answer
-    ensures { answer_of result ≡ decoded.answer_of a }
-{
-    Answer {
-        number: a.number,
-        reason: a.reason,
-        place: a.place,
-        tokens: a.tokens,
-        steps: a.steps,
-        nodes: a.nodes,
-        keys: a.keys,
+impl From<decode::Answer> for Answer {
+    ghost from_gives = { λ a r. answer_of r ≡ decoded.answer_of a };
+
+    fn from(a: decode::Answer) -> Answer {
+        Answer {
+            number: a.number,
+            reason: a.reason,
+            place: a.place,
+            tokens: a.tokens,
+            steps: a.steps,
+            nodes: a.nodes,
+            keys: a.keys,
+        }
     }
 }
 
@@ -96,8 +98,7 @@ pub extern "C" fn phagdrulis_read(
 ) -> Answer
     ensures { outcome_at result tokens.new nodes.new keys.new work.new ≡ outcome_of kind script.now (lengths_of tokens.old nodes.old keys.old work.old) }
 {
-    let a = decode::read(kind, script, tokens, nodes, keys, work);
-    answered(a)
+    Answer::from(decode::read(kind, script, tokens, nodes, keys, work))
 }
 
 // The tokens of a script, three numbers each, at the front of a table and zeros behind; zeros throughout after a refusal.
@@ -144,14 +145,16 @@ pub extern "C" fn phagdrulis_room(script: &[u8]) -> Room
     }
 }
 
-fn written(e: encode::Encoded) -> Encoded
-    ensures { encoded_answer result ≡ encoded.answer_of e }
-{
-    Encoded {
-        number: e.number,
-        reason: e.reason,
-        place: e.place,
-        bytes: e.bytes,
+impl From<encode::Encoded> for Encoded {
+    ghost from_gives = { λ e r. encoded_answer r ≡ encoded.answer_of e };
+
+    fn from(e: encode::Encoded) -> Encoded {
+        Encoded {
+            number: e.number,
+            reason: e.reason,
+            place: e.place,
+            bytes: e.bytes,
+        }
     }
 }
 
@@ -168,8 +171,7 @@ pub extern "C" fn phagdrulis_encode(
 ) -> Encoded
     ensures { encoded_at result out.new work.new ≡ encoding_of kind nodes.now keys.now material.now (length work.old) out.old }
 {
-    let e = encode::encode(kind, nodes, keys, material, work, out);
-    written(e)
+    Encoded::from(encode::encode(kind, nodes, keys, material, work, out))
 }
 
 // Where in the script a node's key or hash lies: the script's kind and bytes, the node's kind and place in; the part out.
