@@ -110,6 +110,7 @@ pub fn turn(
     ensures { (result.at ≤ length part.now) × (result.used ≤ 8192) × (result.used ≡ 0 → Answered result (length part.now)) × (leaves result part.now script.new ≡ leaves hand part.now script.old) × (take result.used out.new ++ owed result part.now script.new tables.new.nodes tables.new.keys ≡ owed hand part.now script.old tables.old.nodes tables.old.keys) }
 {
     let mut held = lay_out(hand, 0, &tables.nodes, &tables.keys, out);
+    // No for: it goes on until the output is full or nothing is owed.
     while is_ready(held, part.len()) {
         let used = held.used;
         let taken = take_line(held, part, script, tables);

@@ -12,6 +12,7 @@ use writes::Stop;
 
 // What the reader answers: document 01's number and reason, 0 where it accepts; the place; and how many tokens, steps,
 // nodes and keys there are.
+// The C interface: number 0 where a Result would say Ok.
 #[repr(C)]
 #[derive(Clone, Copy)]
 pub struct Answer {

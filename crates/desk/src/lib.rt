@@ -40,6 +40,7 @@ fn write_front(rt: HostRuntime, out: &[u8], hand: Hand) -> Result<Hand, Failed>
 {
     let to = hand.used;
     let mut left = hand;
+    // No for: it goes on until all is written.
     while left.used > 0 {
         let wrote = calls::write(rt, &out[to - left.used..to])?;
         left = clerk::written(left, wrote);
@@ -60,6 +61,7 @@ fn write_out(
     ensures { Sends result (λ (left : Hand). fed left.line script.new ≡ leaves hand part.now script.old) }
 {
     let mut held = clerk::turn(hand, part, script, tables, out);
+    // No for: it goes on until nothing is owed.
     while held.used > 0 {
         let left = write_front(rt, out, held)?;
         held = clerk::turn(left, part, script, tables, out);
@@ -94,6 +96,7 @@ fn serve(
     let mut input = [0u8; 4096];
     let mut line = Line::Nothing;
     let mut reads = calls::begin();
+    // No for: it goes on until the input ends.
     loop {
         match calls::next(rt, &mut reads, &mut input) {
             Ok(part) => {

@@ -26,6 +26,7 @@ fn copy_fitting(records: &[Node], flat: &mut [u32])
 }
 
 // The answer where the flat table has no room for the nodes: an unknown script kind comes first, as everywhere.
+// By number: encode's refusals are private to it.
 fn no_room(kind: u32) -> Encoded
     ensures { answer_of result ≡ answer (no_room kind) 0 0 }
 {

@@ -15,7 +15,7 @@ ghost use Rattle.exports.specs.Answers.{answer_of, outcome_at, room_in, Lexes};
 ghost use Rattle.exports.specs.Encodings.{encoded_answer, encoded_at, part_in};
 
 // What `phagdrulis_read` answers: document 01's number and reason, 0 where it accepts; the place; and how many tokens, steps, nodes
-// and keys there are.
+// and keys there are. A struct of its own beside decode's, as `Encoded` is beside encode's: the C interface has it under this name.
 #[repr(C)]
 #[derive(Clone, Copy)]
 pub struct Answer {

@@ -1,5 +1,5 @@
 // The node table as a lent slice of records, over the flat table with nine numbers for a node. The flat table is what the
-// decoder works on; a caller who wants records has them copied out of it, and one who has records has them copied in.
+// decoder works on; a caller who wants records has them copied out of it, and one who has records has them copied in. put, get and clear are 01's.
 #![tactic(auto)]
 
 ghost use Rattle.std.specs.Prelude.{◌≡◌, ◌*◌, ◌≤◌, ◌<◌, length, set, get_or};

@@ -34,21 +34,20 @@ fn offset_at(tokens: &[u32], i: usize) -> u32
     tokens[3 * i + 2] + 1
 }
 
-// The tokens that push a multi's keys: n of them, from the token `first` on, a stride apart.
+// The tokens that push a multi's keys: from the token `first` on, a stride apart.
 #[derive(Clone, Copy)]
 pub struct KeyTokens {
-    pub n: u32,
     pub first: usize,
     pub stride: usize,
 }
 
-// The offsets of what these tokens push.
-pub fn copy_keys(tokens: &[u32], keys: &mut [u32], from: usize, pushed: KeyTokens)
-    requires { (from + pushed.n ≤ length keys.old) × Low tokens.now }
-    ensures { keys.new ≡ put_at keys.old from (offsets_from tokens.now pushed.n pushed.first pushed.stride) }
+// The offsets of what n of these tokens push.
+pub fn copy_keys(tokens: &[u32], keys: &mut [u32], from: usize, n: usize, pushed: KeyTokens)
+    requires { (from + n ≤ length keys.old) × Low tokens.now }
+    ensures { keys.new ≡ put_at keys.old from (offsets_from tokens.now n pushed.first pushed.stride) }
 {
     let mut at = pushed.first;
-    for i in 0..pushed.n as usize {
+    for i in 0..n {
         keys[from + i] = offset_at(tokens, at);
         // The caller bounds no stride: a sum past the last number is cut, and lies behind the table all the same.
         at = at.saturating_add(pushed.stride);

@@ -12,6 +12,7 @@ use encode::Encoded;
 use judge::Node;
 
 // Record i of the eight that a reading fills.
+// Each table apart, here and below: callers in C lend them so.
 pub fn record_read(
     kind: u32,
     script: &[u8],

@@ -11,7 +11,7 @@ use node_store::KeyTokens;
 use row::Row;
 use writes::{State, Stop};
 
-// What a row asks for, carried out.
+// What a row asks for, carried out. The tables one by one, as in run's step.
 pub fn perform(
     tokens: &[u32],
     nodes: &mut [u32],
@@ -44,8 +44,8 @@ pub fn perform(
             first,
             stride,
         } => {
-            let pushed = KeyTokens { n, first, stride };
-            writes::multi(tokens, nodes, keys, s, kind, k, pushed)
+            let pushed = KeyTokens { first, stride };
+            writes::multi(tokens, nodes, keys, s, kind, k, n, pushed)
         }
         Row::Reduce1(kind) => {
             let made = judge::reduce1(nodes, m, kind);

@@ -27,6 +27,7 @@ fn clear_behind(t: &mut [u32], n: usize)
 
 // Reads a script into the flat tables, with room for no more nodes than there are records. What lies behind that room is
 // cleared.
+// Each table apart, here and below: callers in C lend them so.
 fn read_within(
     kind: u32,
     script: &[u8],

@@ -14,7 +14,8 @@ use decode::Answer;
 use hex_line::Line;
 use listing::Header;
 
-// What the reader is lent: 1,040 tokens of three numbers, 512 nodes of nine, 128 keys and 1,024 work entries.
+// What the reader is lent: 1,040 tokens of three numbers, 512 nodes of nine, 128 keys and 1,024 work entries. The script
+// isn't in it: `answer` is lent it shared, which says that it stays as it was.
 #[derive(Drop)]
 pub struct Tables {
     pub tokens: [u32; 3120],
@@ -46,6 +47,7 @@ fn narrow(x: usize) -> u32
 }
 
 // The header of what the reader answers. A listing has eight digits for a number, so nothing is lost here.
+// No From: both types are other crates'.
 fn answered(a: Answer) -> Header
     ensures { result ≡ narrowed a }
 {

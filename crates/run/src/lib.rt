@@ -118,6 +118,7 @@ pub fn run(
     let start = [NonTerm::MaybeAndV, NonTerm::Expression];
     let mut s = counted(writes::enter(work, none, &start), none, 0)?;
     let mut steps: usize = 0;
+    // No for: steps are counted in the answer (01), and the work list says how long it goes on.
     while 0 < s.work {
         let got = step(segwit, script, tokens, nodes, keys, work, s);
         steps += 1;

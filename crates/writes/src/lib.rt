@@ -16,6 +16,7 @@ use node_store::KeyTokens;
 use row::{NonTerm, Refused};
 
 // How many tokens are left, and how many entries, nodes and keys the tables hold.
+// No ghost field for the bounds: each node added brings the next state nearer to them, so a step has them of its own state.
 #[derive(Clone, Copy)]
 pub struct State {
     pub left: usize,
@@ -25,6 +26,8 @@ pub struct State {
 }
 
 // A refusal: document 01's number and reason, and how many tokens stand before the one that it is about.
+// By 01's number, as the rows' definitions refuse: what is between here and the answer hands it on, and an enum would give each
+// number a second name.
 #[derive(Clone, Copy)]
 pub struct Stop {
     pub number: u32,
@@ -147,7 +150,7 @@ pub fn leaf(
     store(nodes, s, x)
 }
 
-// A leaf with keys: 16 if they don't all fit, then 15.
+// A leaf with n keys: 16 if they don't all fit, then 15.
 #[tactic(auto, using(node_store::proofs::KeyLaws::offsets_length))]
 fn with_keys(
     tokens: &[u32],
@@ -155,16 +158,16 @@ fn with_keys(
     keys: &mut [u32],
     s: State,
     x: Node,
+    n: usize,
     pushed: KeyTokens,
 ) -> Result<State, Stop>
     requires { (s.keys ≤ length keys.old) × (s.nodes + 1 < 4294967296) × Low tokens.now }
-    ensures { Keyed nodes.old nodes.new keys.old keys.new s (node_of x) (offsets_from tokens.now pushed.n pushed.first pushed.stride) result }
+    ensures { Keyed nodes.old nodes.new keys.old keys.new s (node_of x) (offsets_from tokens.now n pushed.first pushed.stride) result }
 {
-    let n = pushed.n as usize;
     room(keys, s.keys, n, s.stop(16, 0))?;
     node_room(nodes, s)?;
     node_store::put(nodes, s.nodes, x);
-    node_store::copy_keys(tokens, keys, s.keys, pushed);
+    node_store::copy_keys(tokens, keys, s.keys, n, pushed);
     Ok(State {
         nodes: s.nodes + 1,
         keys: s.keys + n,
@@ -180,11 +183,12 @@ pub fn multi(
     s: State,
     kind: u32,
     k: u32,
+    n: u32,
     pushed: KeyTokens,
 ) -> Result<State, Stop>
     requires { (s.keys ≤ length keys.old) × (s.keys < 2147483648) × (s.nodes + 1 < 4294967296) × Low tokens.now }
-    ensures { Keyed nodes.old nodes.new keys.old keys.new s (new_leaf kind k pushed.n s.keys) (offsets_from tokens.now pushed.n pushed.first pushed.stride) result }
+    ensures { Keyed nodes.old nodes.new keys.old keys.new s (new_leaf kind k n s.keys) (offsets_from tokens.now n pushed.first pushed.stride) result }
 {
-    let x = judge::leaf(kind, k, pushed.n, s.keys as u32);
-    with_keys(tokens, nodes, keys, s, x, pushed)
+    let x = judge::leaf(kind, k, n, s.keys as u32);
+    with_keys(tokens, nodes, keys, s, x, n as usize, pushed)
 }
