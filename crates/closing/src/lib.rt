@@ -15,6 +15,7 @@ ghost use Rattle.closing.specs.Verdicts.{refusal_verdict, verdict_told, verdict_
 ghost use Rattle.closing.specs.Held.{Rooted, fits_from, types_held, pair_held, and_or_held, type_held, Children, formed_held, judged_held, check_held, root_held};
 
 use correctness::{Correctness, ErrorKind};
+use encoding::Source;
 use judge::{Node, cast, combine, leaf_of, reason, size_at, type_at};
 use node_shape::{
     Shape, ValueError, child_count, in_range, shape_of, unused_are_zero, value_refusal,
@@ -203,24 +204,18 @@ fn judged(s: Shape, n: Node, nodes: &[u32], m: usize) -> Result<(), Refusal>
 }
 
 // Node number m, over the trees of the nodes before it.
-fn check_node(
-    segwit: bool,
-    nodes: &[u32],
-    keys: &[u32],
-    material: &[u8],
-    m: usize,
-) -> Result<(), Refusal>
-    requires m_in_bounds { 9 * m + 8 < length nodes.now }
-    requires rooted { Rooted nodes.now m }
-    ensures { verdict_told result ≡ check_held segwit material.now keys.now nodes.now m }
+fn check_node(source: Source, m: usize) -> Result<(), Refusal>
+    requires m_in_bounds { 9 * m + 8 < length source.nodes.now }
+    requires rooted { Rooted source.nodes.now m }
+    ensures { verdict_told result ≡ check_held source.entry.segwit source.entry.material.now source.entry.keys.now source.entry.nodes.now m }
 {
-    let n = node_at(nodes, m);
-    let s = shape_of(segwit, n.kind).ok_or(Refusal::NotOneTree)?;
-    if !well_formed(s, n, nodes, m, keys, material.len()) {
+    let n = node_at(source.nodes, m);
+    let s = shape_of(source.segwit, n.kind).ok_or(Refusal::NotOneTree)?;
+    if !well_formed(s, n, source.nodes, m, source.keys, source.material.len()) {
         return Err(Refusal::NotOneTree);
     }
-    value_refusal(segwit, n, keys, material)?;
-    judged(s, n, nodes, m)
+    value_refusal(source.segwit, n, source.keys, source.material)?;
+    judged(s, n, source.nodes, m)
 }
 
 // One root, with no number behind it, else 21; then 19 unless its base is B.
@@ -245,11 +240,11 @@ fn check_root(nodes: &[u32]) -> Result<(), Refusal>
 }
 
 // Whether a node table holds one tree, with all that it says of itself true.
-pub fn check_tree(segwit: bool, nodes: &[u32], keys: &[u32], material: &[u8]) -> Result<(), Refusal>
-    ensures { verdict_told result ≡ verdict_on (tree_in segwit nodes.now keys.now material.now) }
+pub fn check_tree(source: Source) -> Result<(), Refusal>
+    ensures { verdict_told result ≡ verdict_on (tree_in source.entry.segwit source.entry.nodes.now source.entry.keys.now source.entry.material.now) }
 {
-    for i in 0..nodes.len() / 9 {
-        check_node(segwit, nodes, keys, material, i)?;
+    for i in 0..source.nodes.len() / 9 {
+        check_node(source, i)?;
     }
-    check_root(nodes)
+    check_root(source.nodes)
 }

@@ -3,13 +3,14 @@
 // (crate `write_script`).
 #![tactic(auto)]
 
-ghost use Rattle.std.specs.Prelude.{◌≡◌, ◌<◌, length};
+ghost use Rattle.std.specs.Prelude.{◌≡◌, ◌<◌, eqb, length};
 ghost use Rattle.encoding.specs.Encoding.{encoding_of};
 ghost use Rattle.encode.specs.Encode.{answer, answer_of, outcome_at};
 ghost use Rattle.encode.specs.declared.Refusal.TheVariants.{Unsound};
 ghost use Rattle.encode.specs.Decided.{refusal_answer, room_told, room_refusal, Decides};
 
 use closing::check_tree;
+use encoding::Source;
 use script_length::script_length;
 use tables::clear_work;
 use write_script::write_script;
@@ -101,22 +102,16 @@ fn check_room(nodes: usize, bytes: usize, work: usize, out: usize) -> Result<(),
 
 // How many bytes are to be written, decided with nothing written: by the script kind, by the checks of the nodes, then by
 // the length and the room.
-fn decide(
-    kind: u32,
-    nodes: &[u32],
-    keys: &[u32],
-    material: &[u8],
-    work: usize,
-    out: usize,
-) -> Result<usize, Refusal>
-    ensures { Decides kind nodes.now keys.now material.now work out result }
+fn decide(kind: u32, source: Source, work: usize, out: usize) -> Result<usize, Refusal>
+    requires { source.segwit ≡ eqb kind 0 }
+    ensures { Decides kind source.entry.nodes.now source.entry.keys.now source.entry.material.now work out result }
 {
     if 1 < kind {
         return Err(Refusal::ScriptKind);
     }
-    check_tree(kind == 0, nodes, keys, material)?;
-    let bytes = script_length(kind == 0, nodes);
-    check_room(nodes.len() / 9, bytes, work, out)?;
+    check_tree(source)?;
+    let bytes = script_length(source.segwit, source.nodes);
+    check_room(source.nodes.len() / 9, bytes, work, out)?;
     Ok(bytes)
 }
 
@@ -133,14 +128,20 @@ pub fn encode(
 ) -> Encoded
     ensures { outcome_at result out.new work.new ≡ encoding_of kind nodes.now keys.now material.now (length work.old) out.old }
 {
-    let bytes = match decide(kind, nodes, keys, material, work.len(), out.len()) {
+    let source = Source {
+        segwit: kind == 0,
+        nodes,
+        keys,
+        material,
+    };
+    let bytes = match decide(kind, source, work.len(), out.len()) {
         Ok(bytes) => bytes,
         Err(refusal) => {
             clear_work(work);
             return answered(refusal.number(), refusal.reason(), 0);
         }
     };
-    write_script(kind == 0, nodes, keys, material, work, out);
+    write_script(source, work, out);
     clear_work(work);
     answered(0, 0, bytes)
 }

@@ -8,6 +8,7 @@ ghost use Rattle.write_script.specs.Writing.{bytes_of, Writable};
 ghost use Rattle.write_script.specs.Pass.{Going, Keeps};
 
 use emit::Pen;
+use encoding::Source;
 use row::kind;
 
 // How far the pass has come: so many pieces still to be written, so many nodes still to be taken, and the pen.
@@ -19,19 +20,17 @@ pub struct State {
 }
 
 // A subtree taken off the work list: the next node's pieces are entered, or a multi or multi_a is written at once.
-fn take_node(
-    segwit: bool,
-    nodes: &[u32],
-    keys: &[u32],
-    material: &[u8],
-    work: &mut [u64],
-    out: &mut [u8],
-    s: State,
-) -> State
-    requires going { Going segwit nodes.now keys.now material.now work.old out.old s }
+fn take_node(source: Source, work: &mut [u64], out: &mut [u8], s: State) -> State
+    requires going { Going source.segwit source.nodes.now source.keys.now source.material.now work.old out.old s }
     requires work_value { get_or work.old (s.work - 1) 0 % 64 ≡ 33 }
-    ensures { Keeps segwit nodes.now keys.now material.now work.old out.old s work.new out.new result }
+    ensures { Keeps source.entry.segwit source.entry.nodes.now source.entry.keys.now source.entry.material.now work.old out.old s work.new out.new result }
 {
+    let Source {
+        segwit,
+        nodes,
+        keys,
+        material,
+    } = source;
     let w = s.work - 1;
     let i = s.left - 1;
     let number = nodes[9 * i + 1];
@@ -64,50 +63,35 @@ fn take_node(
 }
 
 // One piece taken off the work list. A lexeme is written.
-fn step(
-    segwit: bool,
-    nodes: &[u32],
-    keys: &[u32],
-    material: &[u8],
-    work: &mut [u64],
-    out: &mut [u8],
-    s: State,
-) -> State
-    requires { Going segwit nodes.now keys.now material.now work.old out.old s }
-    ensures { Keeps segwit nodes.now keys.now material.now work.old out.old s work.new out.new result }
+fn step(source: Source, work: &mut [u64], out: &mut [u8], s: State) -> State
+    requires { Going source.segwit source.nodes.now source.keys.now source.material.now work.old out.old s }
+    ensures { Keeps source.entry.segwit source.entry.nodes.now source.entry.keys.now source.entry.material.now work.old out.old s work.new out.new result }
 {
     let w = s.work - 1;
     let piece = work[w];
     if piece % 64 == u64::from(pieces::SUBTREE) {
-        return take_node(segwit, nodes, keys, material, work, out, s);
+        return take_node(source, work, out, s);
     }
     State {
         work: w,
         left: s.left,
-        pen: pieces::emit_piece(out, s.pen, material, piece),
+        pen: pieces::emit_piece(out, s.pen, source.material, piece),
     }
 }
 
 // Writes the script of the tree that a node table holds at the front of the output, and answers how many bytes it has.
-pub fn write_script(
-    segwit: bool,
-    nodes: &[u32],
-    keys: &[u32],
-    material: &[u8],
-    work: &mut [u64],
-    out: &mut [u8],
-) -> usize
-    requires { Writable segwit nodes.now keys.now material.now (length work.old) (length out.old) }
-    ensures { (out.new ≡ bytes_of (tree_in segwit nodes.now keys.now material.now) ++ drop (length (bytes_of (tree_in segwit nodes.now keys.now material.now))) out.old) × (result ≡ length (bytes_of (tree_in segwit nodes.now keys.now material.now))) }
+pub fn write_script(source: Source, work: &mut [u64], out: &mut [u8]) -> usize
+    requires { Writable source.segwit source.nodes.now source.keys.now source.material.now (length work.old) (length out.old) }
+    ensures { (out.new ≡ bytes_of (tree_in source.entry.segwit source.entry.nodes.now source.entry.keys.now source.entry.material.now) ++ drop (length (bytes_of (tree_in source.entry.segwit source.entry.nodes.now source.entry.keys.now source.entry.material.now))) out.old) × (result ≡ length (bytes_of (tree_in source.entry.segwit source.entry.nodes.now source.entry.keys.now source.entry.material.now))) }
 {
     work[0] = u64::from(pieces::SUBTREE);
     let mut s = State {
         work: 1,
-        left: nodes.len() / 9,
+        left: source.nodes.len() / 9,
         pen: Pen { at: 0, last: 0 },
     };
     while 0 < s.work {
-        s = step(segwit, nodes, keys, material, work, out, s);
+        s = step(source, work, out, s);
     }
     s.pen.at
 }

@@ -3,4 +3,4 @@ use Rattle.closing.proofs.TableLaws.{Checking}
 use Rattle.closing.proofs.check_tree.Given as goal
 
 abbrev pub invariant-loop-i : goal.invariant-loop-i
-invariant-loop-i l = Checking l.segwit l.nodes l.keys l.material l.i
+invariant-loop-i l = Checking l.source.segwit l.source.nodes.now l.source.keys.now l.source.material.now l.i

@@ -9,7 +9,7 @@ use lib.ListN.{length}
 use mathlib.Core.Path.{◌≡◌}
 
 abbrev pub invariant-loop-s : goal.invariant-loop-s
-invariant-loop-s l = (GoingOn l.segwit l.nodes l.keys l.material l.initial.out (bytes_of (tree_in l.segwit l.nodes l.keys l.material)) l.work l.out l.s) × (length l.work ≡ length l.initial.work) × (length l.out ≡ length l.initial.out)
+invariant-loop-s l = (GoingOn l.source.segwit l.source.nodes.now l.source.keys.now l.source.material.now l.initial.out (bytes_of (tree_in l.source.segwit l.source.nodes.now l.source.keys.now l.source.material.now)) l.work l.out l.s) × (length l.work ≡ length l.initial.work) × (length l.out ≡ length l.initial.out)
 
 abbrev pub decreases-loop-s : goal.decreases-loop-s
-decreases-loop-s l = to_write (pieces_in l.material l.work l.s.work) l.s.left
+decreases-loop-s l = to_write (pieces_in l.source.material.now l.work l.s.work) l.s.left
