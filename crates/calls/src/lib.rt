@@ -30,7 +30,7 @@ pub struct Part {
     n: usize,
 }
 
-// The input has ended, at a part of no byte: none was left, or the read failed.
+// The input has ended, at a part of no byte: none was left, or the read failed. It holds the part, so that only this crate can make one.
 #[derive(Clone, Copy)]
 pub struct Ended {
     pub part: Part,
@@ -42,7 +42,7 @@ pub struct Wrote {
     n: usize,
 }
 
-// A write failed: it took no byte.
+// A write failed: it took no byte. It holds what the write took, so that only this crate can make one.
 #[derive(Clone, Copy)]
 pub struct Failed {
     pub wrote: Wrote,

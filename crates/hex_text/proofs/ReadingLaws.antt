@@ -72,19 +72,6 @@ pub record Reading (text lent now : List ℕ) (n : ℕ) : Type 0 where
   pub same_length : length now ≡ length lent
   pub rest : bytes_in (length lent) text ≡ front ++ bytes_in (length lent - n) (drop (2 * n) text)
 
-pub begun : (text lent : List ℕ) → Reading text lent lent 0
-begun text lent =
-    let z : length lent ≡ length lent - 0 = omega arith in
-    record {
-      front = [];
-      counted = refl;
-      within = omega arith;
-      inside = omega arith;
-      held = refl;
-      same_length = refl;
-      rest = ap (λ (k : ℕ). bytes_in k text) z;
-    }
-
 module _ {text lent now : List ℕ} {n : ℕ} (h : Reading text lent now n) where
   -- one byte more
   pub again : (a b : ℕ) → n < length lent → 2 * n + 2 ≤ length text → Some a ≡ digit_in (get_or text (2 * n) 0) → Some b ≡ digit_in (get_or text (2 * n + 1) 0)

@@ -70,9 +70,6 @@ pub record Writing (before : List ℕ) (at width n : ℕ) (out : List ℕ) (rest
   pub kept : length out ≡ length before
   pub same : write out at (digits left rest) ≡ write before at (digits width n)
 
-pub digits_begun : (before : List ℕ) (at width n : ℕ) → Writing before at width n before n width
-digits_begun before at width n = record { within = omega arith; kept = refl; same = refl }
-
 pub digit_put : (before : List ℕ) (at width n : ℕ) (out : List ℕ) (rest left : ℕ) → at + width ≤ length before → Writing before at width n out rest left → 0 < left
     → {d : ℕ} → d ≡ glyph (rest % 16) → Writing before at width n (set out (at + (left - 1)) d) (rest / 16) (left - 1)
 digit_put before at width n out rest left room w h {d} e =

@@ -1,4 +1,7 @@
 // The listing that the program writes for a script, line by line into a lent output: document 01, section "Program".
+//
+// By hand and not by `write!`, since the contracts say each byte. The output is lent beside its place: a struct that held both would need a
+// clause more in each contract, that it is still the same output.
 #![tactic(auto)]
 
 ghost use Rattle.std.specs.Prelude.{◌≡◌, [], ◌∷◌, ◌++◌, leb, length, get_or, ◌+◌, ◌*◌, ◌%◌, ◌≤◌, ◌<◌};
@@ -8,7 +11,7 @@ ghost use Rattle.listing.specs.Output.{write, put, puts};
 ghost use Rattle.listing.specs.Listing.{line_at};
 
 // What the reader answers about a script, as the first line of its listing has it.
-#[derive(Clone, Copy)]
+#[derive(Clone, Copy, Default)]
 pub struct Header {
     pub number: u32,
     pub reason: u32,
@@ -136,6 +139,7 @@ pub fn put_key(out: &mut [u8], at: usize, keys: &[u32], i: usize) -> Option<usiz
 }
 
 // Line k of a listing, at `at`: 0 is the header, then come the nodes, then the keys. Answers as the lines do.
+// By a number and no closure: the clerk keeps it while it writes, and goes on there.
 pub fn put_line(
     out: &mut [u8],
     at: usize,
