@@ -21,9 +21,6 @@ pub record Laying (h : Header) (nodes keys text out : List ℕ) (next end : ℕ)
   pub small : end ≤ 8192
   pub whole : take end out ++ rest_of h next nodes keys ≡ text
 
-pub begun : (h : Header) (nodes keys out : List ℕ) (next used : ℕ) → used ≤ 8192 → Laying h nodes keys (take used out ++ rest_of h next nodes keys) out next used
-begun h nodes keys out next used s = record { small = s; whole = refl }
-
 -- nothing is left behind the last line
 pub none_left : (h : Header) (nodes keys : List ℕ) (next : ℕ) → line_count h ≤ next → rest_of h next nodes keys ≡ []
 none_left h nodes keys next l =

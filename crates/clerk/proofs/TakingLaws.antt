@@ -1,6 +1,6 @@
 -- Taking a line of the input: the part ends within it, or it ends and is answered. And the beginning of a part, or the end of the input. Assumes nothing.
-use mathlib.Core.Path.{◌≡◌, refl, sym, ap, subst, ◌∙◌}
-use mathlib.Core.Bool.{Bool, true, false}
+use mathlib.Core.Path.{◌≡◌, refl, sym, ap, ◌∙◌}
+use mathlib.Core.Bool.{Bool, false}
 use mathlib.Core.List.{List, [], ◌∷◌, ◌++◌}
 use Prim.Native.Nat.{ℕ, suc, ◌+◌, ◌-◌, ◌≤◌, ◌<◌}
 use native.Mathlib.Omega.{arith}
@@ -14,7 +14,7 @@ use Rattle.listing.specs.declared.Header.{Header}
 use Rattle.listing.specs.Listing.{listing}
 use Rattle.reply.specs.Program.{text_of, texts_of}
 use Rattle.clerk.specs.declared.Hand.{Hand}
-use Rattle.clerk.specs.Owed.{line_count, owed, leaves, due, started}
+use Rattle.clerk.specs.Owed.{line_count, owed, leaves, due}
 use Rattle.clerk.proofs.LayingLaws.{none_left, all_left}
 
 -- where feeding a line stopped
@@ -93,28 +93,6 @@ Receives line n script r nodes keys =
     × (r.used ≡ 0)
     × ((part : List ℕ) → length part ≡ n
     → (owed r part script nodes keys ≡ due (fed line script) part) × (0 < n → leaves r part script ≡ left_by (fed line script) part))
-
--- the beginning of a part
-pub part_came : (line : Line) (n : ℕ) (script nodes keys : List ℕ) (r : Hand) → r ≡ started line → 0 < n → Receives line n script r nodes keys
-part_came line n script nodes keys r e h = subst (λ (x : Hand). Receives line n script x nodes keys) (sym e) (refl, refl, here)
-  where
-    here : (part : List ℕ) → length part ≡ n
-        → (owed (started line) part script nodes keys ≡ due (fed line script) part) × (0 < n → leaves (started line) part script ≡ left_by (fed line script) part)
-    here [] l = absurd (omega arith)
-    here (b ∷ part) l = (refl, λ z. refl)
-
--- the end of the input: nothing, or one line more
-pub nothing_came : (line : Line) (n : ℕ) (script nodes keys : List ℕ) (r : Hand) {t : Bool} → r ≡ started line → n ≤ 0 → t ≡ untouched line → t ≡ true
-    → Receives line n script r nodes keys
-nothing_came line n script nodes keys r {t} e h q p = subst (λ (x : Hand). Receives line n script x nodes keys) (sym e) (refl, refl, here)
-  where
-    u : untouched line ≡ true
-    u = sym q ∙ p
-
-    here : (part : List ℕ) → length part ≡ n
-        → (owed (started line) part script nodes keys ≡ due (fed line script) part) × (0 < n → leaves (started line) part script ≡ left_by (fed line script) part)
-    here [] l = (simp u, λ z. absurd (omega arith))
-    here (b ∷ part) l = absurd (omega arith)
 
 pub last_came : (line : Line) (n : ℕ) (script nodes keys : List ℕ) (header : Header) {t : Bool} → n ≤ 0 → t ≡ untouched line → t ≡ false
     → listing header nodes keys ≡ text_of (told_of (fed line script))

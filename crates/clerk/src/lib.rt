@@ -134,15 +134,7 @@ fn start(line: Line) -> Hand
     Hand {
         line,
         at: 0,
-        header: Header {
-            number: 0,
-            reason: 0,
-            place: 0,
-            tokens: 0,
-            steps: 0,
-            nodes: 0,
-            keys: 0,
-        },
+        header: Header::default(),
         next: 1,
         used: 0,
     }

@@ -84,12 +84,6 @@ narrowed_header : (a : Answer) → header_line (narrowed a) ≡ header_line (hea
 unfolding header_line
 narrowed_header a = same_words a.number a.reason (narrow_8 a.place) (narrow_8 a.tokens) (narrow_8 a.steps) (narrow_8 a.nodes) (narrow_8 a.keys)
 
--- five numbers made narrow
-pub narrowed_is : (a : Answer) {p t s n k : ℕ} → p ≡ a.place % 4294967296 → t ≡ a.tokens % 4294967296 → s ≡ a.steps % 4294967296 → n ≡ a.nodes % 4294967296
-    → k ≡ a.keys % 4294967296
-    → record { number = a.number; reason = a.reason; place = p; tokens = t; steps = s; nodes = n; keys = k } ≡ narrowed a
-narrowed_is a p t s n k = simp (p, t, s, n, k)
-
 -- an outcome whose tables have the lengths that were lent counts no more nodes and keys than these hold
 abbrev Within : Lengths → Outcome → Type 0
 Within lengths o = (length o.nodes ≡ lengths.nodes → o.answer.nodes ≤ lengths.nodes) × (length o.keys ≡ lengths.keys → o.answer.keys ≤ lengths.keys)

@@ -1,31 +1,21 @@
 -- A refused line, and a script that was read: the header and the tables lay out as what the line is answered with. Assumes nothing.
-use mathlib.Core.Path.{◌≡◌, refl, sym, ap, ◌∙◌}
+use mathlib.Core.Path.{◌≡◌, sym, ap, ◌∙◌}
 use mathlib.Core.List.{List}
-use Rattle.std.specs.Prelude.{Result, Ok, Err}
+use Rattle.std.specs.Prelude.{Result, Ok}
 use Prim.Native.Nat.{ℕ}
 use lib.ListN.{length, take}
 use Rattle.listing.specs.declared.Header.{Header}
 use Rattle.listing.specs.Listing.{listing}
-use Rattle.listing.specs.ListingLaws.{refusal_is_its_header}
 use Rattle.hex_line.specs.declared.Line.{Line}
 use Rattle.hex_line.specs.declared.Script.{Script}
 use Rattle.hex_line.specs.declared.Refusal.{Refusal}
-use Rattle.hex_line.specs.Meant.{number_of}
 use Rattle.hex_line.specs.Feeding.{fed, ended, told, told_of}
 use Rattle.decode.specs.declared.Answer.{Answer}
 use Rattle.decode.specs.Read.{lengths_of, outcome_at}
 use Rattle.standard.specs.Outcome.{Outcome, outcome_of}
-use Rattle.reply.specs.Program.{refusal_of, desk_lengths, outcome_text, text_of}
+use Rattle.reply.specs.Program.{desk_lengths, outcome_text, text_of}
 use Rattle.reply.specs.Narrow.{narrowed}
 use Rattle.reply.proofs.NarrowLaws.{narrowed_listing}
-
--- a refused line
-pub refused_text : (line : Line) (buffer nodes keys : List ℕ) (why : Refusal) {m : Result Script Refusal} {h : Header} → m ≡ ended line → m ≡ Err why → h ≡ refusal_of (number_of why)
-    → listing h nodes keys ≡ text_of (told_of (fed line buffer))
-refused_text line buffer nodes keys why {m} {h} e p q =
-    ap (λ (x : Header). listing x nodes keys) q
-    ∙ refusal_is_its_header (refusal_of (number_of why)) nodes keys refl refl
-    ∙ ap (λ (x : Result Script Refusal). text_of (told x buffer)) (sym p ∙ e)
 
 -- a script that was read
 pub read_text : (line : Line) (buffer : List ℕ) (s : Script) (tokens nodes keys work : List ℕ) (a : Answer) {m : Result Script Refusal} {h : Header} → m ≡ ended line

@@ -30,12 +30,7 @@ fn refused(number: u32) -> Header
 {
     Header {
         number,
-        reason: 0,
-        place: 0,
-        tokens: 0,
-        steps: 0,
-        nodes: 0,
-        keys: 0,
+        ..Header::default()
     }
 }
 
