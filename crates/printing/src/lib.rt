@@ -27,12 +27,14 @@ pub fn table<T: Into<u64> + Copy>(name: &[u8], cells: &[T]) {
     line();
 }
 
-fn short_number(x: u32) {
+// A number in two digits, before a space.
+pub fn short_number(x: u32) {
     io::print_hex(1, u64::from(x), 2);
     space();
 }
 
-fn size(x: usize) {
+// A number in eight digits, before a space.
+pub fn size(x: usize) {
     io::print_hex(1, x as u64, 8);
     space();
 }

@@ -15,6 +15,7 @@
 ghost use Rattle.std.specs.Prelude.{◌≤◌, ◌<◌, length, IfSome};
 
 use encode::Encoded;
+use printing::{line, short_number};
 
 // The sizes of a work table and an output, and how many numbers lie behind the last whole node.
 #[derive(Clone, Copy)]
@@ -79,6 +80,7 @@ impl<'a> Rest<'a> {
     }
 
     // The bytes of a text in hexadecimal, at the front of the material, up to the first character that is no digit; how many there are.
+    // Not hex_text's, which stops at the front of a text: here the rest goes on behind it.
     fn unhex(&mut self, material: &mut [u8]) -> usize
         ensures { result ≤ length material.old }
     {
@@ -137,21 +139,11 @@ impl<'a> Rest<'a> {
     }
 }
 
-fn show_number(x: u32) {
-    io::print_hex(1, u64::from(x), 2);
-    io::write_all(1, b" ");
-}
-
-fn show_size(x: usize) {
-    io::print_hex(1, x as u64, 8);
-    io::write_all(1, b" ");
-}
-
 fn show_answer(answer: Encoded, clean: bool) {
-    show_number(answer.number);
-    show_number(answer.reason);
-    show_size(answer.place);
-    show_size(answer.bytes);
+    short_number(answer.number);
+    short_number(answer.reason);
+    printing::size(answer.place);
+    printing::size(answer.bytes);
     io::write_all(1, if clean { b"clean\n" } else { b"dirty\n" });
 }
 
@@ -160,7 +152,7 @@ fn show_script(out: &[u8], size: usize) {
     for b in out.iter().take(size) {
         io::print_hex(1, u64::from(*b), 2);
     }
-    io::write_all(1, b"\n");
+    line();
 }
 
 // A node table encoded, and the answer shown.
