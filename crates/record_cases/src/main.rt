@@ -13,9 +13,9 @@ ghost use Rattle.std.specs.Prelude.{◌≡◌, ◌+◌, ◌-◌, ◌*◌, ◌≤
 use decode::Answer;
 use encode::Encoded;
 use judge::Node;
-use printing::{cell, line, space};
+use printing::{cell, line, short_number, space};
 
-// The seven numbers of an answer.
+// The seven numbers of an answer. Here, since printing stands on no crate that has the answer's type.
 fn header(a: Answer) {
     printing::header(
         a.number, a.reason, a.place, a.tokens, a.steps, a.nodes, a.keys,
@@ -48,6 +48,7 @@ fn show_tokens(tokens: &[u32], count: usize)
     requires { 3 * count ≤ length tokens.now }
 {
     let mut left = count;
+    // No for: a turn goes on where the cursor stands.
     while 0 < left {
         left = show_next(tokens, left);
     }
@@ -105,12 +106,9 @@ fn show_bytes(out: &[u8], size: usize) {
 // The four numbers of the encoder's answer.
 fn show_answer(e: Encoded) {
     io::write_all(1, b"e ");
-    io::print_hex(1, u64::from(e.number), 2);
-    space();
-    io::print_hex(1, u64::from(e.reason), 2);
-    space();
-    io::print_hex(1, e.place as u64, 8);
-    space();
+    short_number(e.number);
+    short_number(e.reason);
+    printing::size(e.place);
     io::print_hex(1, e.bytes as u64, 8);
 }
 
