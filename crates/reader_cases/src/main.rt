@@ -9,7 +9,7 @@
 use decode::Answer;
 use printing::{line, table};
 
-// How many cells each table has; of a script, how many entries of each it needs.
+// How many cells each table has; of a script, how many entries of each it needs. Not lex's Sizes: those are entries only.
 #[derive(Clone, Copy)]
 struct Sizes {
     tokens: usize,
@@ -26,7 +26,7 @@ const AMPLE: Sizes = Sizes {
     work: 12,
 };
 
-// The seven numbers of an answer.
+// The seven numbers of an answer. Here, since printing stands on no crate that has the answer's type.
 fn header(a: Answer) {
     printing::header(
         a.number, a.reason, a.place, a.tokens, a.steps, a.nodes, a.keys,
