@@ -18,7 +18,8 @@ use instruction::token::{
 };
 use row::kind;
 
-// The tags: the codes of the tokens, and behind them a subtree and the numbers 0, 1 and 32.
+// The tags: the codes of the tokens, and behind them a subtree and the numbers 0, 1 and 32. They are no enum: a piece is a
+// number in a work table that callers in C lend.
 pub const SUBTREE: u32 = 33;
 
 const ZERO: u32 = 34;
@@ -133,14 +134,12 @@ pub fn emit_piece(out: &mut [u8], pen: Pen, material: &[u8], piece: u64) -> Pen
 {
     let tag = (piece % 64) as u32;
     let value = (piece / 64 % 0x100000000) as u32;
-    if tag <= HASH256 {
-        return emit::emit_op(out, pen, tag);
+    match tag {
+        0..=HASH256 => emit::emit_op(out, pen, tag),
+        NUM => emit::emit_number(out, pen, value),
+        HASH20..=BYTES65 => {
+            emit::emit_push(out, pen, material, value as usize, data_length(tag))
+        }
+        _ => emit::emit_number(out, pen, constant_of(tag)),
     }
-    if tag == NUM {
-        return emit::emit_number(out, pen, value);
-    }
-    if tag <= BYTES65 {
-        return emit::emit_push(out, pen, material, value as usize, data_length(tag));
-    }
-    emit::emit_number(out, pen, constant_of(tag))
 }
