@@ -77,12 +77,10 @@ pub fn enter(work: &mut [u64], w: usize, tags: &[u32], number: u32, place: u32) 
     requires { w + length tags.now ≤ length work.old }
     ensures { (work.new ≡ put_at work.old w (entries number place (reverse tags.now))) × (result ≡ w + length tags.now) }
 {
-    let mut n = w;
-    for tag in tags.iter().rev() {
-        work[n] = entry(*tag, number, place);
-        n += 1;
+    for (i, tag) in tags.iter().rev().enumerate() {
+        work[w + i] = entry(*tag, number, place);
     }
-    n
+    w + tags.len()
 }
 
 // The pieces of a thresh with so many children behind the first: [X1] [X2] ADD .. [Xn] ADD <k> EQUAL.
@@ -92,14 +90,14 @@ pub fn enter_thresh(work: &mut [u64], w: usize, further: usize, number: u32, pla
 {
     work[w] = entry(EQUAL, number, place);
     work[w + 1] = entry(NUM, number, place);
-    let mut n = w + 2;
-    for _ in 0..further {
+    for i in 0..further {
+        let n = w + 2 + 2 * i;
         work[n] = entry(ADD, number, place);
         work[n + 1] = entry(SUBTREE, number, place);
-        n += 2;
     }
-    work[n] = entry(SUBTREE, number, place);
-    n + 1
+    let first = w + 2 + 2 * further;
+    work[first] = entry(SUBTREE, number, place);
+    first + 1
 }
 
 // How many bytes a push has.
