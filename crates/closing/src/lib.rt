@@ -22,7 +22,7 @@ use node_shape::{
 };
 
 // Why a table is refused.
-#[derive(Clone, Copy)]
+#[derive(Clone, Copy, Debug, PartialEq, Eq)]
 pub enum Refusal {
     // 21.
     NotOneTree,
@@ -35,7 +35,7 @@ pub enum Refusal {
 }
 
 impl Refusal {
-    // 01's number.
+    // 01's number. A method and no From: 01 has several numbers of one value, and the name says which.
     pub fn number(self) -> u32
         ensures { result ≡ (refusal_verdict self).number }
     {
@@ -112,7 +112,8 @@ fn well_formed(s: Shape, n: Node, nodes: &[u32], m: usize, keys: &[u32], materia
         && right_size(nodes, m, child_count(s, n), n.size)
 }
 
-// The type of a combination of the two newest trees.
+// The type of a combination of the two newest trees. From here to `type_of_node` is the walk of judge's reductions, for the
+// type alone: those make a node and need a table with room to count one more (Finished).
 fn pair_type(nodes: &[u32], m: usize, kind: u32) -> Result<Correctness, ErrorKind>
     requires m_in_bounds { 9 * m ≤ length nodes.now }
     requires subtrees { Subtrees 2 m nodes.now }
@@ -150,11 +151,7 @@ fn thresh_type(nodes: &[u32], m: usize, n: u32) -> Result<Correctness, ErrorKind
     let mut at = m;
     for i in 0..n {
         let child = at - 1;
-        let answer = Correctness::threshold_child(i, earlier, type_at(nodes, child));
-        let Ok(next) = answer else {
-            return answer;
-        };
-        earlier = next;
+        earlier = Correctness::threshold_child(i, earlier, type_at(nodes, child))?;
         at -= size_at(nodes, child) as usize;
     }
     Ok(earlier)
@@ -177,7 +174,7 @@ fn type_of_node(s: Shape, n: Node, nodes: &[u32], m: usize) -> Result<Correctnes
     }
 }
 
-// Whether the node holds this type.
+// Whether the node holds this type. Number by number: a stored number that no type has differs from each.
 fn holds_type(n: Node, ty: Correctness) -> bool
     ensures { result ≡ holds_type (node_of n) ty }
 {
@@ -223,14 +220,7 @@ fn check_root(nodes: &[u32]) -> Result<(), Refusal>
     ensures { verdict_told result ≡ root_held nodes.now }
 {
     let count = nodes.len() / 9;
-    if count < 1 {
-        return Err(Refusal::NotOneTree);
-    }
-    let size = size_at(nodes, count - 1);
-    if (size as usize) != count {
-        return Err(Refusal::NotOneTree);
-    }
-    if nodes.len() % 9 != 0 {
+    if count < 1 || size_at(nodes, count - 1) as usize != count || nodes.len() % 9 != 0 {
         return Err(Refusal::NotOneTree);
     }
     if !type_at(nodes, count - 1).base.is_b() {

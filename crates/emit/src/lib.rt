@@ -1,5 +1,7 @@
 // Writing lexemes one after the other: each as one instruction, in its shortest form, and a VERIFY together with the opcode
 // before it where a fused form exists. Only the last byte written is ever looked back at.
+// The output is lent beside the pen: a struct that held it would need a clause more in each contract, that it is still the
+// same one.
 #![tactic(auto)]
 
 ghost use Rattle.std.specs.Prelude.{◌≡◌, ◌+◌, ◌≤◌, length};
@@ -11,6 +13,7 @@ ghost use Rattle.emit.specs.Emission.{fusing, digit_count, inked, penned, Room};
 use instruction::token;
 
 // How far the output has been written: so many bytes, and the code of the last opcode, 0 where the last lexeme was none.
+// 0 and no Option: 0 is no opcode's code, so nothing fuses with it.
 #[derive(Clone, Copy)]
 pub struct Pen {
     pub at: usize,

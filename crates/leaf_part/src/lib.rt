@@ -8,6 +8,7 @@ use node_shape::key_length;
 use row::kind;
 
 // How many bytes of a key or hash a node of this kind has; 0 where it has none.
+// 0 and no Option: 01 hands back an empty part there, and this is its length.
 fn leaf_bytes(kind: u32, node: u32) -> usize
     ensures { result ≡ leaf_bytes kind node }
 {

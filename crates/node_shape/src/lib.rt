@@ -16,7 +16,7 @@ use locks::key_form;
 use row::kind;
 use row::token::{BYTES32, BYTES33};
 
-// What a node of a kind holds.
+// What a node of a kind holds. 0 and no Option, as Form.antt has it: a node's place with no bytes is within any material.
 #[derive(Clone, Copy)]
 pub struct Shape {
     // Whether it has a number: a locktime or k.
@@ -32,7 +32,7 @@ pub struct Shape {
 }
 
 // Why a node's values are refused: its key's form (11), its locktime (12), its threshold or how many there are (13).
-#[derive(Clone, Copy)]
+#[derive(Clone, Copy, Debug, PartialEq, Eq)]
 pub enum ValueError {
     KeyForm,
     Locktime,
@@ -40,7 +40,7 @@ pub enum ValueError {
 }
 
 impl ValueError {
-    // 01's number.
+    // 01's number. A method and no From: 01 has several numbers of one value, and the name says which.
     pub fn number(self) -> u32
         ensures { result ≡ number_of self }
     {
@@ -167,10 +167,8 @@ pub fn in_range(s: Shape, n: Node, keys: &[u32], material: usize) -> bool
     if s.key < 1 {
         return end_of(n.place, s.bytes) <= material;
     }
-    let Some(named) = keys.get(n.place as usize..end_of(n.place, n.count)) else {
-        return false;
-    };
-    all_within(s.key, material, named)
+    keys.get(n.place as usize..end_of(n.place, n.count))
+        .is_some_and(|named| all_within(s.key, material, named))
 }
 
 // A pk_k's key has the key form.
@@ -219,7 +217,8 @@ fn multi_keys_formed(segwit: bool, material: &[u8], offsets: &[u32]) -> bool
         .all(|offset| multi_key_formed(segwit, material, *offset))
 }
 
-// A multi's keys, then 1 ≤ n ≤ 20 and 1 ≤ k ≤ n.
+// A multi's keys, then 1 ≤ n ≤ 20 and 1 ≤ k ≤ n. The keys by place and count, as the node holds them.
+// The decoder tests this in two steps, n before the keys and k after them.
 fn multi_refusal(
     segwit: bool,
     material: &[u8],

@@ -6,7 +6,7 @@ use Prim.Native.Nat.{ℕ, zero, suc, ◌+◌, ◌-◌, ◌*◌, ◌/◌, ◌%◌
 use native.Mathlib.Nat.{mod-eq_of_lt}
 use native.Mathlib.Omega.{arith}
 use lib.Dec.{eqb}
-use lib.ListN.{length, get_or, set, length-set, length-append, length-reverse}
+use lib.ListN.{length, get_or, set, length-set, length-append}
 use Rattle.tables.specs.Choose.{pick}
 use Rattle.tables.specs.Tables.{put_at}
 use Rattle.tables.proofs.PutLaws.{put_more, put_before, put_inside}
@@ -102,43 +102,22 @@ pub record Entering (before now : List ℕ) (w number place : ℕ) (tags rest : 
   pub kept : length now ≡ length before
   pub holds : now ≡ put_at before w (entries number place done)
 
-append_none : (l : List ℕ) → l ++ [] ≡ l
-append_none [] = refl
-append_none (x ∷ l) = ap (λ (r : List ℕ). x ∷ r) (append_none l)
-
 snoc : (l : List ℕ) (x : ℕ) (r : List ℕ) → l ++ (x ∷ r) ≡ (l ++ (x ∷ [])) ++ r
 snoc [] x r = refl
 snoc (y ∷ l) x r = ap (λ (s : List ℕ). y ∷ s) (snoc l x r)
 
 module _ {before : List ℕ} {w number place : ℕ} {tags : List ℕ} where
-  pub tags_begun : (rest : List ℕ) → rest ≡ tags → Entering before before w number place tags rest w
-  tags_begun rest e = record { done = []; parts = ap reverse (sym e); at = omega arith; kept = refl; holds = refl }
-
   module _ {now rest : List ℕ} {n : ℕ} (c : Entering before now w number place tags rest n) where
-    lengths : length tags ≡ length c.done + length rest
-    lengths = omega (arith, length-reverse tags, ap length c.parts, length-append c.done (reverse rest), length-reverse rest)
-
     module _ (next : List ℕ) (tag : ℕ) (one : rest ≡ next ++ (tag ∷ [])) where
-      -- the entry lies within the table
-      pub tag_room : (room : ℕ) → w + length tags ≤ room → n < room
-      tag_room room g = omega (arith, lengths, c.at, ap length one, length-append next (tag ∷ []))
-
-      pub tag_turned : (x : ℕ) → x ≡ entry_for number place tag → Entering before (set now n x) w number place tags next (n + 1)
-      tag_turned x v =
+      pub tag_turned : (x i k : ℕ) → x ≡ entry_for number place tag → i ≡ n → k ≡ n + 1 → Entering before (set now i x) w number place tags next k
+      tag_turned x i k v here behind =
           record {
             done = c.done ++ (tag ∷ []);
             parts = c.parts ∙ ap (λ (l : List ℕ). c.done ++ l) (ap reverse one ∙ reverse-append next (tag ∷ [])) ∙ snoc c.done tag (reverse next);
-            at = omega (arith, c.at, length-append c.done (tag ∷ []));
-            kept = length-set now n x ∙ c.kept;
-            holds = entries_more before w number place c.done tag x n now c.holds c.at v;
+            at = omega (arith, c.at, length-append c.done (tag ∷ []), behind);
+            kept = length-set now i x ∙ c.kept;
+            holds = entries_more before w number place c.done tag x i now c.holds (here ∙ c.at) v;
           }
-
-    pub tags_ended : length rest ≡ 0 → (now ≡ put_at before w (entries number place (reverse tags))) × (n ≡ w + length tags)
-    tags_ended h = by rest h c.parts lengths
-      where
-        by : (rest : List ℕ) → length rest ≡ 0 → reverse tags ≡ c.done ++ reverse rest → length tags ≡ length c.done + length rest → (now ≡ put_at before w (entries number place (reverse tags))) × (n ≡ w + length tags)
-        by [] h p l = (c.holds ∙ ap (λ (l : List ℕ). put_at before w (entries number place l)) (sym (p ∙ append_none c.done)), omega (arith, c.at, l))
-        by (x ∷ rest) h p l = absurd (omega arith)
 
 -- The loop over a thresh's children
 
@@ -182,7 +161,7 @@ module _ {before : List ℕ} {w further number place : ℕ} where
     at_added = omega (arith, c.at, add_length i [])
 
     pub thresh_turned : (x y : ℕ) → i < further → x ≡ entry_for number place ADD → y ≡ entry_for number place SUBTREE
-        → Adding before (set (set now n x) (n + 1) y) w further number place (i + 1) (n + 2)
+        → Adding before (set (set now n x) (n + 1) y) w further number place (i + 1) (w + 2 + 2 * (i + 1))
     thresh_turned x y h e f =
         let s : suc i ≡ i + 1 = omega arith in
         let one : set now n x ≡ put_at before w (entries number place (added i ++ (ADD ∷ []))) = entries_more before w number place (added i) ADD x n now c.holds at_added e in
@@ -191,18 +170,19 @@ module _ {before : List ℕ} {w further number place : ℕ} where
         sym (snoc (added i) ADD (SUBTREE ∷ [])) ∙ ap (λ (r : List ℕ). EQUAL ∷ NUM ∷ r) (add_more i (ADD ∷ SUBTREE ∷ []) ∙ add_last i) ∙ ap added s in
         record {
           within = omega arith;
-          at = omega (arith, c.at);
+          at = refl;
           kept = length-set (set now n x) (n + 1) y ∙ length-set now n x ∙ c.kept;
           holds = entries_more before w number place (added i ++ (ADD ∷ [])) SUBTREE y (n + 1) (set now n x) one l f ∙ ap (λ (r : List ℕ). put_at before w (entries number place r)) same;
         }
 
     pub thresh_ended : (x : ℕ) → further ≤ i → x ≡ entry_for number place SUBTREE
-        → (set now n x ≡ put_at before w (entries number place (thresh_tags further))) × (n + 1 ≡ w + 2 * further + 3)
+        → (set now (w + 2 + 2 * further) x ≡ put_at before w (entries number place (thresh_tags further))) × (w + 2 + 2 * further + 1 ≡ w + 2 * further + 3)
     thresh_ended x h e =
         let j : i ≤ further = c.within in
-        let z : i ≡ further = omega arith in (
-          entries_more before w number place (added i) SUBTREE x n now c.holds at_added e
+        let z : i ≡ further = omega arith in
+        let k : w + 2 + 2 * further ≡ w + length (added i) = omega (arith, at_added, c.at) in (
+          entries_more before w number place (added i) SUBTREE x (w + 2 + 2 * further) now c.holds k e
               ∙ ap (λ (r : List ℕ). put_at before w (entries number place (EQUAL ∷ NUM ∷ r))) (add_more i (SUBTREE ∷ []))
               ∙ ap (λ (k : ℕ). put_at before w (entries number place (thresh_tags k))) z,
-          omega (arith, c.at),
+          omega arith,
         )

@@ -18,7 +18,8 @@ use instruction::token::{
 };
 use row::kind;
 
-// The tags: the codes of the tokens, and behind them a subtree and the numbers 0, 1 and 32.
+// The tags: the codes of the tokens, and behind them a subtree and the numbers 0, 1 and 32. They are no enum: a piece is a
+// number in a work table that callers in C lend.
 pub const SUBTREE: u32 = 33;
 
 const ZERO: u32 = 34;
@@ -76,12 +77,10 @@ pub fn enter(work: &mut [u64], w: usize, tags: &[u32], number: u32, place: u32) 
     requires { w + length tags.now ≤ length work.old }
     ensures { (work.new ≡ put_at work.old w (entries number place (reverse tags.now))) × (result ≡ w + length tags.now) }
 {
-    let mut n = w;
-    for tag in tags.iter().rev() {
-        work[n] = entry(*tag, number, place);
-        n += 1;
+    for (i, tag) in tags.iter().rev().enumerate() {
+        work[w + i] = entry(*tag, number, place);
     }
-    n
+    w + tags.len()
 }
 
 // The pieces of a thresh with so many children behind the first: [X1] [X2] ADD .. [Xn] ADD <k> EQUAL.
@@ -91,14 +90,14 @@ pub fn enter_thresh(work: &mut [u64], w: usize, further: usize, number: u32, pla
 {
     work[w] = entry(EQUAL, number, place);
     work[w + 1] = entry(NUM, number, place);
-    let mut n = w + 2;
-    for _ in 0..further {
+    for i in 0..further {
+        let n = w + 2 + 2 * i;
         work[n] = entry(ADD, number, place);
         work[n + 1] = entry(SUBTREE, number, place);
-        n += 2;
     }
-    work[n] = entry(SUBTREE, number, place);
-    n + 1
+    let first = w + 2 + 2 * further;
+    work[first] = entry(SUBTREE, number, place);
+    first + 1
 }
 
 // How many bytes a push has.
@@ -133,14 +132,12 @@ pub fn emit_piece(out: &mut [u8], pen: Pen, material: &[u8], piece: u64) -> Pen
 {
     let tag = (piece % 64) as u32;
     let value = (piece / 64 % 0x100000000) as u32;
-    if tag <= HASH256 {
-        return emit::emit_op(out, pen, tag);
+    match tag {
+        0..=HASH256 => emit::emit_op(out, pen, tag),
+        NUM => emit::emit_number(out, pen, value),
+        HASH20..=BYTES65 => {
+            emit::emit_push(out, pen, material, value as usize, data_length(tag))
+        }
+        _ => emit::emit_number(out, pen, constant_of(tag)),
     }
-    if tag == NUM {
-        return emit::emit_number(out, pen, value);
-    }
-    if tag <= BYTES65 {
-        return emit::emit_push(out, pen, material, value as usize, data_length(tag));
-    }
-    emit::emit_number(out, pen, constant_of(tag))
 }

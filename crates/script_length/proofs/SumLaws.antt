@@ -22,14 +22,6 @@ module _ (segwit : Bool) (table : List ℕ) where
     pub summed : total ≡ sum i
     pub small : total ≤ 10000
 
-  pub begun : Summing 0 0
-  begun = record { inside = omega arith; summed = refl; small = omega arith }
-
-  pub again : (total i own : ℕ) → Summing total i → i < node_count table → own ≡ added_bytes segwit (node_at table i) (newest (node_at table) i) → total + own ≤ 10000 → Summing (total + own) (i + 1)
-  again total i own s h e l =
-      let f : suc i ≡ i + 1 = omega arith in
-      record { inside = omega arith; summed = subst (λ (k : ℕ). total + own ≡ sum k) f (omega (arith, s.summed, e)); small = l }
-
   sum_grows : (k i : ℕ) → sum i ≤ sum (k + i)
   sum_grows zero i = let f : i ≡ 0 + i = omega arith in subst (λ (j : ℕ). sum i ≤ sum j) f (omega arith)
   sum_grows (suc k) i =

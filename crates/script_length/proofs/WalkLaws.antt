@@ -22,9 +22,6 @@ module _ (table : List ℕ) where
     pub inside : at ≤ m
     pub same : ends_fusible (first m) ≡ ends_fusible (first at)
 
-  pub begun : (m : ℕ) → Walking m m
-  begun m = record { inside = omega arith; same = refl }
-
   ends_skipped : (skip : ℕ) (ns : List Node) → ends_from skip ns ≡ ends_from 0 (drop skip ns)
   ends_skipped zero ns = refl
   ends_skipped (suc skip) [] = refl

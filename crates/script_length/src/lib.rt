@@ -55,6 +55,7 @@ fn ends_fusible(nodes: &[u32], m: usize) -> bool
     ensures { result ≡ ends_fusible (newest (node_at nodes.now) m) }
 {
     let mut at = m;
+    // No for: it goes down by a subtree's size.
     while 0 < at {
         let under = at - 1;
         match ending_of(nodes[9 * under]) {
@@ -68,6 +69,7 @@ fn ends_fusible(nodes: &[u32], m: usize) -> bool
 }
 
 // The push of a number: 0 to 16 have opcodes, any other is pushed by its digits.
+// These are the bounds of emit's digit_count, and a byte for the size; this crate doesn't stand on emit.
 #[tactic(auto, unfolding(spelling::specs::Spell::number_bytes, spelling::specs::Spell::digits))]
 fn number_bytes(n: u32) -> usize
     ensures { result ≡ length (number_bytes n) }
@@ -93,7 +95,7 @@ fn verify_bytes(nodes: &[u32], m: usize) -> usize
     requires { 9 * m ≤ length nodes.now }
     ensures { Counts result (wrapper_bytes tree.verify (ends_fusible (newest (node_at nodes.now) m))) }
 {
-    if ends_fusible(nodes, m) { 0 } else { 1 }
+    usize::from(!ends_fusible(nodes, m))
 }
 
 // A number and an opcode behind it.

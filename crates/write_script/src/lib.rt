@@ -42,7 +42,7 @@ fn take_node(source: Source, work: &mut [u64], out: &mut [u8], s: State) -> Stat
         kind::THRESH => State {
             work: pieces::enter_thresh(work, w, count - 1, number, place),
             left: i,
-            pen: s.pen,
+            ..s
         },
         kind::MULTI => State {
             work: w,
@@ -57,7 +57,7 @@ fn take_node(source: Source, work: &mut [u64], out: &mut [u8], s: State) -> Stat
         _ => State {
             work: pieces::enter(work, w, pieces::template(segwit, kind), number, place),
             left: i,
-            pen: s.pen,
+            ..s
         },
     }
 }
@@ -74,8 +74,8 @@ fn step(source: Source, work: &mut [u64], out: &mut [u8], s: State) -> State
     }
     State {
         work: w,
-        left: s.left,
         pen: pieces::emit_piece(out, s.pen, source.material, piece),
+        ..s
     }
 }
 
@@ -90,6 +90,7 @@ pub fn write_script(source: Source, work: &mut [u64], out: &mut [u8]) -> usize
         left: source.nodes.len() / 9,
         pen: Pen { at: 0, last: 0 },
     };
+    // No for: it goes on until no piece is left.
     while 0 < s.work {
         s = step(source, work, out, s);
     }
