@@ -34,10 +34,6 @@ module _ (segwit : Bool) (script table : List ℕ) (left : ℕ) where
     unfolding row_from
     by_point known point q f h = h ∙ ap (reading_asked segwit) (f (lexemes_left script table left)) ∙ ap asks (sym q)
 
-    -- its row takes no token
-    pub by_row : (known : NonTerm) (asked : Row) {r : Result Found Refused} → entry ≡ known → r ≡ asked_at asked left → reading_of script table (asked_at asked left) ≡ asks known → reading_of script table r ≡ asks entry
-    by_row known asked q h f = ap (reading_of script table) h ∙ f ∙ ap asks (sym q)
-
     -- its row is told as an entry's
     pub by_entry : (known : NonTerm) {x : Reading} → entry ≡ known → x ≡ entry_row segwit known script table left → x ≡ asks entry
     unfolding entry_row
@@ -50,10 +46,6 @@ module _ (segwit : Bool) (script table : List ℕ) (left : ℕ) where
         ap (reading_of script table) h
         ∙ row_pick script table (within 1 k n) (row.Thresh k n) 13 left
         ∙ ap asks (sym q)
-
--- an entry that counts children
-pub counts : (entry : NonTerm) (k n : ℕ) → entry ≡ non-term.ThreshW k n → counted entry < 2147483648 → n < 2147483648
-counts entry k n q h = subst (λ (x : NonTerm). counted x < 2147483648) q h
 
 -- thresh's children
 module _ (segwit : Bool) (script table : List ℕ) (left k n : ℕ) where

@@ -106,7 +106,8 @@ fn thresh_e(left: usize, k: u32, n: u32) -> Result<Found, Refused>
     ask(Row::Thresh { k, n }, left)
 }
 
-// The row of an entry.
+// The row of an entry. By table and number, as run has them; what holds of them is asked here once, and every row has it in
+// its type.
 pub fn row_of(
     segwit: bool,
     script: &[u8],
