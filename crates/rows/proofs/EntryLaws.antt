@@ -1,8 +1,8 @@
 -- The row of an entry: from a point on, or without a token; thresh's k and n; and thresh's children. Assumes nothing.
-use mathlib.Core.Path.{◌≡◌, refl, sym, ap, subst, ◌∙◌}
+use mathlib.Core.Path.{◌≡◌, refl, sym, ap, ◌∙◌}
 use mathlib.Core.Bool.{Bool}
 use mathlib.Core.List.{List, [], ◌∷◌}
-use Prim.Native.Nat.{ℕ, suc, ◌+◌, ◌<◌}
+use Prim.Native.Nat.{ℕ, suc, ◌+◌}
 use native.Mathlib.Omega.{arith}
 use Rattle.std.specs.Prelude.{Result, IsErrAnd}
 use Rattle.lex.specs.Token.{Lexeme, ADD}
@@ -10,14 +10,13 @@ use Rattle.standard.specs.Allowed.{within}
 use Rattle.standard.specs.Rows.{Point, in_thresh_w, opcode, enter, WExpression, Expression, ThreshW, ThreshE, read_from, row_of}
 use Rattle.row.specs.declared.NonTerm.{NonTerm}
 use Rattle.row.specs.declared.NonTerm.TheVariants as non-term
-use Rattle.row.specs.declared.Row.{Row}
 use Rattle.row.specs.declared.Row.TheVariants as row
 use Rattle.row.specs.declared.Found.{Found}
 use Rattle.row.specs.declared.Refused.{Refused}
 use Rattle.row.specs.declared.table.Taken.{Taken}
 use Rattle.row.specs.Tokens.{lexemes_left}
 use Rattle.row.specs.Next.{IsTaken}
-use Rattle.row.specs.Request.{entries, Reading, reading, reading_asked, entry_of, counted, asked_at, reading_of}
+use Rattle.row.specs.Request.{entries, Reading, reading, reading_asked, entry_of, asked_at, reading_of}
 use Rattle.row.specs.Told.{row_from, entry_row}
 use Rattle.row.proofs.LookLaws.{Rest}
 use Rattle.row.proofs.TakenLaws.{row_pick, dry, arm, put_back_lem}

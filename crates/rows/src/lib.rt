@@ -54,13 +54,11 @@ fn ends_and_v(code: u32) -> bool
 }
 
 // Whether an and_v goes on: no at the script's start and before If, NotIf, Else, ToAltStack, Swap, else yes.
+#[tactic(auto, using(crate::proofs::AndVLaws::ahead_none, crate::proofs::AndVLaws::told_ahead))]
 pub fn is_and_v(tokens: Tokens) -> bool
     ensures { ToldAndV tokens.entry result }
 {
-    let Some(code) = tokens.peek() else {
-        return false;
-    };
-    !ends_and_v(code)
+    tokens.peek().is_some_and(|code| !ends_and_v(code))
 }
 
 fn maybe_and_v(tokens: Tokens) -> Result<Found, Refused>
