@@ -1,6 +1,6 @@
 // The token cursor: one record, lent to `next`, `peek` and `un_next`, in place of lex.rs's TokenIter. Tokens are read from
-// the last to the first: so many are `left`, and the next one is the last of them. Each of the three is thin over functions
-// on the token table and a number; `take`, `look` and `put_back` hold a cursor and lend it, for callers who have a number.
+// the last to the first: so many are `left`, and the next one is the last of them. 01: three thin functions over covered ones
+// on a token slice and an index; `take`, `look` and `put_back` hold a cursor and lend it, for callers who have a number.
 #![tactic(auto)]
 
 ghost use Rattle.std.specs.Prelude.{◌≡◌, ◌+◌, ◌-◌, ◌*◌, ◌≤◌, ◌<◌, ◌^◌, length};

@@ -38,19 +38,6 @@ use Rattle.run.proofs.EndLaws.{all_zeros, behind_tail}
 
 -- Wiping
 
-wiped_front : (t : List ℕ) (n : ℕ) → n ≤ length t → Behind t n → zeros n ++ drop n t ≡ zeros (length t)
-wiped_front t zero h b = all_zeros t b
-wiped_front [] (suc n) h b = let x : ⊥ = omega arith in absurd x
-wiped_front (x ∷ t) (suc n) h b = ap (λ (l : List ℕ). 0 ∷ l) (wiped_front t n (omega arith) (behind_tail x t n b))
-
-pub wiped : (t front : List ℕ) (n : ℕ) → n ≤ length t → Behind t n → front ≡ zeros (length (take n t)) → front ++ drop n t ≡ zeros (length t)
-wiped t front n h b e =
-    let l : length (take n t) ≡ n = simp length-take (omega arith) in
-    ap (λ (f : List ℕ). f ++ drop n t) (e ∙ ap zeros l) ∙ wiped_front t n h b
-
-pub all_behind : (t : List ℕ) → (length t ≤ length t) × Behind t (length t)
-all_behind t = (omega arith, (λ i h. get_or-eq_default t 0 h))
-
 pub zeros_are_behind : (t : List ℕ) (n : ℕ) → t ≡ zeros (length t) → Behind t n
 zeros_are_behind t n e i b = ap (λ (l : List ℕ). get_or l i 0) e ∙ zeros_cell (length t) i
 
@@ -226,10 +213,6 @@ module _ (kind : ℕ) (script tokens nodes keys work : List ℕ) where
   pub read_on_lem : kind ≤ 1 → (o : Outcome) (t' n' k' w' : List ℕ) → length t' ≡ length tokens → length n' ≡ length nodes → length k' ≡ length keys → length w' ≡ length work
       → o ≡ lexed (eqb kind 0) (lengths_of t' n' k' w') script (lex_of (length t' / 3) script) → o ≡ outcome_of kind script whole
   read_on_lem h o t' n' k' w' t n k w e = rw (t, n, k, w) at e ∙ sym (known_kind h)
-
--- what the lexer has filled, told of the table itself
-pub lexes_here : (script t t' : List ℕ) (count : ℕ) {a : lex.Answer} → Lexes script (length t) a t' → a ≡ Ok count → length t' ≡ length t → Lexes script (length t') (Ok count) t'
-lexes_here script t t' count h e l = rw (l, ← e) h
 
 pub lexes_not : (script t t' : List ℕ) (number place : ℕ) {a : lex.Answer} → Lexes script (length t) a t' → a ≡ Err (refusal number place) → Lexes script (length t) (Err (refusal number place)) t'
 lexes_not script t t' number place h e = rw (← e) h

@@ -25,6 +25,7 @@ pub struct Answer {
     pub keys: usize,
 }
 
+// In Answer's order; a struct for them would be Answer.
 fn refused(number: u32, reason: u32, place: usize, tokens: usize, steps: usize) -> Answer
     ensures { answer_of result ≡ refused_answer number reason place tokens steps }
 {
@@ -59,7 +60,8 @@ fn wipe(t: &mut [u32], n: usize)
     t[..n].fill(0);
 }
 
-// The tokens of a script that lexes, decoded. The node table and the key table are clear.
+// The tokens of a script that lexes, decoded. The node table and the key table are clear. The count stands beside the table: the
+// tokens are a part of it, but what lies behind them is cleared with it.
 fn decoded(
     segwit: bool,
     script: &[u8],

@@ -1,4 +1,3 @@
 -- Laws that the proofs of this crate and of those above it cite.
-pub mod KindLaws
 pub mod ReductionLaws
 pub mod ThresholdLaws

@@ -5,9 +5,6 @@ use mathlib.Core.List.{List}
 use Prim.Native.Nat.{ℕ, ◌+◌, ◌-◌, ◌≤◌, ◌<◌}
 use native.Mathlib.Omega.{arith}
 use Rattle.tables.specs.Tables.{newest}
-use Rattle.base_input.specs.declared.Base.{Base}
-use Rattle.base_input.specs.declared.Input.{Input}
-use Rattle.base_input.specs.Numbers.{base_number, input_number, bool_number, base_of, input_of, bool_of}
 use Rattle.correctness.specs.declared.Correctness.{Correctness}
 use Rattle.correctness.specs.declared.ErrorKind.{ErrorKind}
 use Rattle.correctness.specs.declared.Leaf.{Leaf}
@@ -15,7 +12,6 @@ use Rattle.correctness.specs.Typed.{Typed}
 use Rattle.std.specs.Prelude.{Ok, Err}
 use Rattle.correctness.specs.Reasons.{reason}
 use Rattle.correctness.specs.Rules.{leaf_type, and_or}
-use Rattle.correctness.specs.Rules as rules
 use Rattle.standard.specs.Table.{Node, node, and_or_kind}
 use Rattle.judge.specs.Nodes.{held_type, top_node, under_top, leaf_of, new_leaf, cast_of, combination_of, Making, makes, refuses, making, parent, reduce_one, reduce_two, reduce_three}
 use Rattle.judge.specs.NodeTable.{node_at, size_at, Finished}
@@ -30,22 +26,6 @@ refused answer next e r = ap refuses (r ∙ ap reason e) ∙ sym (ap (λ (a : Ty
 -- a rule that gives a type
 pub given_type : (answer : Typed) (next : Correctness → Making) {c : Correctness} {x : Making} → answer ≡ Ok c → x ≡ next c → x ≡ making answer next
 given_type answer next e h = h ∙ sym (ap (λ (a : Typed). making a next) e)
-
--- the type in four numbers
-pub typed_numbers : (kind number count place size : ℕ) (c : Correctness) {b i d u : ℕ} → b ≡ base_number c.base → i ≡ input_number c.input → d ≡ bool_number c.dissatisfiable → u ≡ bool_number c.unit
-    → ◌≡◌ {A = Node} (record { kind = kind; number = number; count = count; place = place; size = size; base = b; input = i; d = d; u = u }) (node kind number count place size (Ok c))
-typed_numbers kind number count place size c {b} {i} {d} {u} p q r s =
-    let n : ℕ → ℕ → ℕ → ℕ → Node = λ b i d u. record { kind = kind; number = number; count = count; place = place; size = size; base = b; input = i; d = d; u = u } in
-    ap (λ (x : ℕ). n x i d u) p
-    ∙ ap (λ (x : ℕ). n (base_number c.base) x d u) q
-    ∙ ap (λ (x : ℕ). n (base_number c.base) (input_number c.input) x u) r
-    ∙ ap (λ (x : ℕ). n (base_number c.base) (input_number c.input) (bool_number c.dissatisfiable) x) s
-
--- a type from four numbers
-pub held_numbers : (b i d u : ℕ) {x : Base} {y : Input} → x ≡ base_of b → y ≡ input_of i
-    → rules.made x y (bool_of d) (bool_of u) ≡ rules.made (base_of b) (input_of i) (bool_of d) (bool_of u)
-held_numbers b i d u {x} {y} e f =
-    ap (λ (z : Base). rules.made z y (bool_of d) (bool_of u)) e ∙ ap (λ (z : Input). rules.made (base_of b) z (bool_of d) (bool_of u)) f
 
 -- a leaf's type, by its kind
 pub leaf_is : (kind number count place : ℕ) {l : Leaf} {c : Correctness} {n : Node} → l ≡ leaf_of kind → c ≡ leaf_type l → n ≡ node kind number count place 1 (Ok c) → n ≡ new_leaf kind number count place

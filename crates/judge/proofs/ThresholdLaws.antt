@@ -10,8 +10,8 @@ use Rattle.correctness.specs.Typed.{Typed}
 use Rattle.std.specs.Prelude.{Ok, Err}
 use Rattle.correctness.specs.Reasons.{reason}
 use Rattle.correctness.specs.Rules.{no_children, threshold_child}
-use Rattle.standard.specs.Table.{Node, node, thresh_kind}
-use Rattle.judge.specs.Nodes.{held_type, under_top, Making, makes, refuses, making, reduce_children, reduce_many}
+use Rattle.standard.specs.Table.{Node}
+use Rattle.judge.specs.Nodes.{held_type, under_top, Making, refuses, making, reduce_children, reduce_many}
 use Rattle.judge.specs.NodeTable.{node_at, size_at, Subtrees, Finished}
 use Rattle.judge.specs.NodeTableLaws.{top_read, under_read, one_more, next_there}
 use Rattle.judge.proofs.ReductionLaws.{refused, given_type}
@@ -68,8 +68,3 @@ module _ (t : List ℕ) (m k n : ℕ) where
                 ∙ given_type answer _ p refl
                 ∙ child_judged;
           }
-
-    pub ended : {x : Node} → n ≤ i → x ≡ node thresh_kind k n 0 (size + 1) (Ok earlier) → makes x ≡ reduce_many k n (newest (node_at t) m)
-    ended most e =
-        let z : n - i ≡ 0 = omega arith in
-        ap makes e ∙ sym (ap (λ (j : ℕ). reduce_children k n j i earlier size (newest (node_at t) at)) z) ∙ h.same

@@ -1,7 +1,7 @@
 // The judging part of a step of decode.rs: the node that a reduction makes of its children, or the reason of 14. The
 // children are the newest finished subtrees of the node table, found by `size`; types are read from their fields, judged
 // by the rule of the new node's kind, and the node is returned by value. Nothing is written here. Kinds are numbers, as
-// document 01 has them, and the table is flat: callers in C lend it.
+// document 01 has them, and the table is flat: callers in C lend it. The names are row's, which this crate doesn't stand on.
 #![tactic(auto)]
 
 ghost use Rattle.std.specs.Prelude.{◌≡◌, ◌+◌, ◌*◌, ◌<◌, length};
@@ -125,7 +125,7 @@ pub fn combine(kind: u32, x: Correctness, y: Correctness) -> Result<Correctness,
     }
 }
 
-// Why a rule refuses, as 01's reason.
+// Why a rule refuses, as 01's reason; 0 of a type: it is asked only where a let .. else has found none (01's form).
 pub fn reason(answer: Result<Correctness, ErrorKind>) -> u32
     ensures { result ≡ reasons.reason answer }
 {

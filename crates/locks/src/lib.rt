@@ -1,6 +1,6 @@
 // Points of the row Expression that end in a leaf without a list of keys: pk_k, a raw key hash, after, older, hash locks.
-// Each takes one token and goes on by its code, as decode.rs's nested `match_token!` does, and is named for what has been
-// read since Expression was taken. All are the decoder's own: they ask that the token table is the lexer's.
+// Each takes one token and goes on by its code, as decode.rs's nested `match_token!` does, a function for each of its nested
+// matches, and is named for what has been read since Expression was taken. All are the decoder's own: they ask that the token table is the lexer's.
 #![tactic(auto)]
 
 ghost use Rattle.std.specs.Prelude.{◌≡◌};
@@ -115,6 +115,7 @@ fn hash_kind(hash: Hash) -> u32
 }
 
 // Any hash lock is SIZE 32 EQUAL VERIFY, its hash's opcode and the hash; `verify` says whether v: stands over it.
+// Three parameters and no struct: seven places would build it, and each function hands it on unread.
 // SIZE, its first token.
 fn lock_size(tokens: Tokens, verify: bool, hash: Hash, offset: u32) -> Result<Found, Refused>
     ensures { ToldOf (point.lockSize verify (hash_of hash)) offset tokens.entry result }
@@ -137,12 +138,7 @@ fn lock_32(tokens: Tokens, verify: bool, hash: Hash, offset: u32) -> Result<Foun
 {
     let token = tokens.next()?;
     match token.code {
-        NUM => {
-            if token.number == 32 {
-                return lock_size(token.rest, verify, hash, offset);
-            }
-            token.refuse(10)
-        }
+        NUM if token.number == 32 => lock_size(token.rest, verify, hash, offset),
         _ => token.refuse(10),
     }
 }

@@ -183,18 +183,3 @@ again segwit script table from n tokens i {j = j} {u = u} r l taken q z =
           ∙ ap (λ (m : ℕ). row_from segwit (multi_keys m (keys_from script table i tokens.left)) script table tokens.left) (sym d)
           ∙ r.same;
     }
-
--- all keys are read: what is read behind them
-pub all_read : (segwit : Bool) (script table : List ℕ) (from n : ℕ) (tokens : Tokens) (i : ℕ) (r : Result Found Refused) → KeysRead segwit script table from n tokens i → n ≤ i → ToldMulti tokens n r → reading_of script table r ≡ row_from segwit (multi_keys n []) script table from
-all_read segwit script table from n tokens i r read h told =
-    let q : i ≤ n = read.count in
-    let e : i ≡ n = omega arith in
-    let d : n - i ≡ 0 = omega arith in
-    subst
-    (λ (y : List ℕ). allowed.all_multi_keys segwit (keys_from script y n tokens.left) ≡ true → reading_of script y r ≡ row_from segwit (multi_keys zero (keys_from script y n tokens.left)) script y tokens.left)
-    read.its
-    (told segwit script)
-    (ap (λ (j : ℕ). allowed.all_multi_keys segwit (keys_from script table j tokens.left)) (sym e) ∙ read.passed)
-    ∙ ap (λ (j : ℕ). row_from segwit (multi_keys zero (keys_from script table j tokens.left)) script table tokens.left) (sym e)
-    ∙ ap (λ (j : ℕ). row_from segwit (multi_keys j (keys_from script table i tokens.left)) script table tokens.left) (sym d)
-    ∙ read.same

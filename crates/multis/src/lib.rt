@@ -130,7 +130,8 @@ fn multi_a_k(k: u32, n: u32, left: usize) -> Result<Found, Refused>
     )
 }
 
-// CHECKSIG, and before it a multi_a's first key.
+// CHECKSIG, and before it a multi_a's first key. The bound stands in three contracts: a struct for one
+// number that is handed on is no plainer.
 fn after_check_sig(segwit: bool, tokens: Tokens, k: u32, n: u32) -> Result<Found, Refused>
     requires n_bound { (n < 2147483648) × (1 ≤ k) × (k ≤ 999) }
     ensures { ToldMultiA point.afterCheckSig segwit tokens.entry (tokens.entry.left + 1) k n result }
@@ -192,8 +193,8 @@ fn added_key(segwit: bool, tokens: Tokens<'_>) -> Result<Tokens<'_>, Refused>
     Ok(key.rest)
 }
 
-// A multi_a's keys, the last one first. The nested loop is left by the outer label on a refusal, and yields the count of keys
-// by break at the first token that isn't CHECKSIGADD. The outer loop ends in its first turn.
+// A multi_a's keys, the last one first. 01 names this form: the nested loop is left by the outer label on a refusal, and
+// yields the count of keys by break at the first token that isn't CHECKSIGADD. The outer loop ends in its first turn.
 fn multi_a_keys(segwit: bool, from: Tokens, k: u32) -> Result<Found, Refused>
     requires le_k { (1 ≤ k) × (k ≤ 999) }
     ensures { ToldIn segwit (point.multiAKeys k []) from.entry result }

@@ -1,6 +1,6 @@
 -- Records stored in a flat table one after the other: what is still to be stored after each, over plain lists. Assumes nothing.
 --     put_all i rs t    the records' numbers stored in t, the first record's as node number i
---     stored_next, stored_end      a record stored is one less to store; with none left it is the table
+--     stored_end       with none left to store it is the table
 --     stored_all       all of them stored, their numbers stand at the table's front
 use mathlib.Core.Path.{◌≡◌, sym, ◌∙◌, ap}
 use Prim.Native.Nat.{ℕ, suc, ◌<◌, ◌≤◌, ◌+◌, ◌*◌}
@@ -16,12 +16,6 @@ use Rattle.node_records.specs.Records.{zero_record, numbers_of, written_over}
 abbrev pub put_all : ℕ → List Node → List ℕ → List ℕ
 put_all i [] t = t
 put_all i (v ∷ vs) t = put_all (i + 1) vs (put_at t (9 * i) (numbers_of v))
-
-one_more : (i : ℕ) → suc i ≡ i + 1
-one_more i = omega arith
-
-pub stored_next : (i : ℕ) (l : List Node) (t : List ℕ) → i < length l → put_all (i + 1) (drop (i + 1) l) (put_at t (9 * i) (numbers_of (get_or l i zero_record))) ≡ put_all i (drop i l) t
-stored_next i l t lt = ap (λ (k : ℕ). put_all (i + 1) (drop k l) (put_at t (9 * i) (numbers_of (get_or l i zero_record)))) (sym (one_more i)) ∙ sym (ap (λ (r : List Node). put_all i r t) (drop-cons l i zero_record lt))
 
 pub stored_end : (i : ℕ) (l : List Node) (t : List ℕ) → length l ≤ i → put_all i (drop i l) t ≡ t
 stored_end i l t le = ap (λ (r : List Node). put_all i r t) (drop_of_length-le l le)

@@ -38,7 +38,8 @@ pub fn clear(records: &mut [Node], i: usize)
     records[i] = zero_record();
 }
 
-// Node number i of a flat table that holds n; behind them, the zero record.
+// Node number i of a flat table that holds n; behind them, the zero record. Nine fields one by one, as
+// closing::node_at reads them: the edit place-and-size-swapped is of these lines.
 #[tactic(auto, unfolding(crate::specs::Records::record_at))]
 pub fn record_at(flat: &[u32], n: usize, i: usize) -> Node
     requires { 9 * n ≤ length flat.now }

@@ -2,16 +2,14 @@
 -- Why: before turn i the offsets of the first i tokens are written, and the next token is the one that the loop has reached.
 use mathlib.Core.Path.{◌≡◌, refl, sym, ap, ◌∙◌}
 use mathlib.Core.List.{List, [], ◌∷◌, ◌++◌}
-use Prim.Native.Nat.{min, ℕ, zero, suc, ◌+◌, ◌-◌, ◌*◌, ◌/◌, ◌%◌, ◌≤◌, ◌<◌}
+use Prim.Native.Nat.{min, ℕ, zero, suc, ◌+◌, ◌*◌, ◌/◌, ◌%◌, ◌≤◌, ◌<◌}
 use mathlib.Core.Logic.{⊎_elim, inl, inr}
 use native.Mathlib.Nat.{eq-or-lt_of_le, mul-zero, mul-suc, div-add-mod', mod-lt}
 use native.Mathlib.Omega.{arith}
-use lib.ListN.{length, set, length-set, length-append, length-replicate, get_or-eq_default}
-use Rattle.tables.specs.Tables.{zeros, put_at}
+use lib.ListN.{length, set, length-set, get_or-eq_default}
+use Rattle.tables.specs.Tables.{put_at}
 use Rattle.tables.proofs.PutLaws.{put_more}
-use Rattle.tables.proofs.FlatLaws.{append_numbers}
 use Rattle.row.specs.Request.{offsets_from}
-use Rattle.node_store.specs.Stored.{keys_in}
 use Rattle.node_store.specs.Offsets.{offset_at, SameToken}
 
 -- Offsets
@@ -64,15 +62,6 @@ pub record Copying (table before now : List ℕ) (from n first stride i at : ℕ
   pub holds : now ≡ put_at before from (offsets_from table i first stride)
 
 module _ {table before : List ℕ} {from n first stride : ℕ} where
-  pub begun : Copying table before before from n first stride 0 first
-  begun =
-      record {
-        within = omega arith;
-        reached = let z : stride * 0 ≡ 0 = mul-zero stride in inl (omega arith);
-        kept = refl;
-        holds = refl;
-      }
-
   module _ {now : List ℕ} {i at : ℕ} (c : Copying table before now from n first stride i at) where
     pub turned : (next x : ℕ) → i < n → x ≡ offset_at table at → SameToken table next (at + stride) → Copying table before (set now (from + i) x) from n first stride (i + 1) next
     turned next x h v f =
@@ -91,23 +80,3 @@ module _ {table before : List ℕ} {from n first stride : ℕ} where
               ∙ ap (put_at before from) (offsets_more table i first stride)
               ∙ ap (λ (k : ℕ). put_at before from (offsets_from table k first stride)) s;
         }
-
-    pub ended : n ≤ i → now ≡ put_at before from (offsets_from table n first stride)
-    ended h =
-        let w : i ≤ n = c.within in
-        let e : i ≡ n = omega arith in
-        c.holds ∙ ap (λ (k : ℕ). put_at before from (offsets_from table k first stride)) e
-
--- The key table
-
-pub keys_none : (size : ℕ) → keys_in size [] ≡ zeros size
-keys_none size = let e : size - 0 ≡ size = omega arith in ap zeros e
-
-pub keys_length : (size : ℕ) (keys : List ℕ) → length keys ≤ size → length (keys_in size keys) ≡ size
-keys_length size keys h = length-append keys (zeros (size - length keys)) ∙ omega (arith, length-replicate {A = ℕ} (size - length keys) 0)
-
--- more keys behind those that stand there
-pub copied : (size : ℕ) (keys more : List ℕ) → length keys + length more ≤ size → put_at (keys_in size keys) (length keys) more ≡ keys_in size (keys ++ more)
-copied size keys more h =
-    let e : size - length keys - length more ≡ size - length (keys ++ more) = omega (arith, length-append keys more) in
-    append_numbers keys more (size - length keys) (omega arith) ∙ ap (λ (k : ℕ). keys ++ more ++ zeros k) e

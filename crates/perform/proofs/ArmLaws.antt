@@ -61,18 +61,6 @@ module _ (tokens nodes : List ℕ) (m : ℕ) (asked : Row) (ready : Ready m node
       let h : SmallEntries most_counted (entry_of c ∷ entry_of b ∷ entry_of a ∷ []) = rw e at ready in
       (small a h.1.1.0, (small b h.1.0, small c h.0))
 
-  pub one_there : (kind : ℕ) → asked ≡ row.Reduce1 kind → Finished 1 m nodes
-  one_there kind e = rw e at ready
-
-  pub two_there : (kind : ℕ) → asked ≡ row.Reduce2 kind → Finished 2 m nodes
-  two_there kind e = rw e at ready
-
-  pub three_there : asked ≡ row.Tern → Finished 3 m nodes
-  three_there e = rw e at ready
-
-  pub many_there : (k n : ℕ) → asked ≡ row.Thresh k n → Finished n m nodes
-  many_there k n e = rw e at ready
-
 -- an arm of the match
 pub told : {tokens nodes keys work nodes' keys' work' : List ℕ} {s : State} {r : Step} (asked is : Row) → asked ≡ is
     → Performs tokens nodes keys work nodes' keys' work' s (request_of tokens is) r → Performs tokens nodes keys work nodes' keys' work' s (request_of tokens asked) r

@@ -1,5 +1,6 @@
 -- A token taken: the row from a point on is that of the case which fits it. Assumes nothing.
--- Why: `taken_of` goes by how many tokens are left, as `lexemes_left` does, so the row is a function of what is taken (`by_taken`).
+-- Why: a row is read from the tokens left by `row_from`, whose first step is the act of the token taken (`row_next`), so an arm's answer is the row's once the
+-- act of its code is known (`took_at`).
 use mathlib.Core.Path.{◌≡◌, refl, sym, ap, subst, ◌∙◌}
 use mathlib.Core.Bool.{Bool, true, false}
 use mathlib.Core.List.{List, [], ◌∷◌, ◌++◌}

@@ -1,4 +1,5 @@
 // The kinds of nodes: document 01, "numbered by Terminal's order from True 1 to MultiA 28"; 4, PkH, never occurs.
+// They are numbers, since callers in C read them in the node table.
 #![tactic(auto)]
 
 pub const TRUE: u32 = 1;

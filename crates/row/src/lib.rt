@@ -16,7 +16,7 @@ pub use table::{Taken, Tokens};
 pub use lex::token;
 
 // decode.rs's NonTerm: an entry of the work list.
-#[derive(Clone, Copy)]
+#[derive(Clone, Copy, Debug, PartialEq, Eq)]
 pub enum NonTerm {
     Expression,
     WExpression,
@@ -45,7 +45,7 @@ pub enum NonTerm {
 }
 
 // The hash of a lock.
-#[derive(Clone, Copy)]
+#[derive(Clone, Copy, Debug, PartialEq, Eq)]
 pub enum Hash {
     Sha256,
     Hash256,
@@ -54,9 +54,10 @@ pub enum Hash {
 }
 
 // What a row asks for.
-#[derive(Clone, Copy)]
+#[derive(Clone, Copy, Debug, PartialEq, Eq)]
 pub enum Row {
     // Entries, in the order in which decode.rs pushes them: the last one on top.
+    // A variant for each count: entries are handed out by value, and there is no heap for a list of them.
     Enter0,
     Enter1(NonTerm),
     Enter2(NonTerm, NonTerm),
@@ -94,6 +95,8 @@ pub struct Found {
 }
 
 // A row that is refused: document 01's number, and how many tokens are left.
+// By 01's number, as the rows' definitions refuse: what is between here and the answer hands it on, and an enum would give
+// each number a second name.
 #[derive(Clone, Copy, Debug, PartialEq, Eq)]
 pub struct Refused {
     pub number: u32,
@@ -107,6 +110,7 @@ impl<'a> Tokens<'a> {
     {
         let took = cursor::take(self.table, self.left);
         let token = took.token.ok_or(Refused { number: 9, left: 0 })?;
+        // Its fields and no Token within: a row reads token.code.
         Ok(Taken {
             code: token.code,
             number: token.number,

@@ -56,6 +56,11 @@ told_ahead script table left c {b = b} e f g = by left (sym f ∙ e)
         k : ℕ
         k = (token_at table m).code
 
+-- no token is left
+pub ahead_none : (script table : List ℕ) (left : ℕ) → None ≡ ahead_of table left → false ≡ is_and_v (lexemes_left script table left)
+ahead_none script table zero e = refl
+ahead_none script table (suc m) e = cc
+
 -- MaybeAndV and AndV
 module _ (segwit : Bool) (script table : List ℕ) (left : ℕ) {b : Bool} {r : Result Found Refused} (e : b ≡ is_and_v (lexemes_left script table left)) where
   pub maybe_yes : b ≡ true → r ≡ asked_at (row.Enter2 non-term.AndV non-term.Expression) left → reading_of script table r ≡ entry_row segwit non-term.MaybeAndV script table left

@@ -1,8 +1,8 @@
 -- The row of an entry: from a point on, or without a token; thresh's k and n; and thresh's children. Assumes nothing.
-use mathlib.Core.Path.{◌≡◌, refl, sym, ap, subst, ◌∙◌}
+use mathlib.Core.Path.{◌≡◌, refl, sym, ap, ◌∙◌}
 use mathlib.Core.Bool.{Bool}
 use mathlib.Core.List.{List, [], ◌∷◌}
-use Prim.Native.Nat.{ℕ, suc, ◌+◌, ◌<◌}
+use Prim.Native.Nat.{ℕ, suc, ◌+◌}
 use native.Mathlib.Omega.{arith}
 use Rattle.std.specs.Prelude.{Result, IsErrAnd}
 use Rattle.lex.specs.Token.{Lexeme, ADD}
@@ -10,14 +10,13 @@ use Rattle.standard.specs.Allowed.{within}
 use Rattle.standard.specs.Rows.{Point, in_thresh_w, opcode, enter, WExpression, Expression, ThreshW, ThreshE, read_from, row_of}
 use Rattle.row.specs.declared.NonTerm.{NonTerm}
 use Rattle.row.specs.declared.NonTerm.TheVariants as non-term
-use Rattle.row.specs.declared.Row.{Row}
 use Rattle.row.specs.declared.Row.TheVariants as row
 use Rattle.row.specs.declared.Found.{Found}
 use Rattle.row.specs.declared.Refused.{Refused}
 use Rattle.row.specs.declared.table.Taken.{Taken}
 use Rattle.row.specs.Tokens.{lexemes_left}
 use Rattle.row.specs.Next.{IsTaken}
-use Rattle.row.specs.Request.{entries, Reading, reading, reading_asked, entry_of, counted, asked_at, reading_of}
+use Rattle.row.specs.Request.{entries, Reading, reading, reading_asked, entry_of, asked_at, reading_of}
 use Rattle.row.specs.Told.{row_from, entry_row}
 use Rattle.row.proofs.LookLaws.{Rest}
 use Rattle.row.proofs.TakenLaws.{row_pick, dry, arm, put_back_lem}
@@ -34,10 +33,6 @@ module _ (segwit : Bool) (script table : List ℕ) (left : ℕ) where
     unfolding row_from
     by_point known point q f h = h ∙ ap (reading_asked segwit) (f (lexemes_left script table left)) ∙ ap asks (sym q)
 
-    -- its row takes no token
-    pub by_row : (known : NonTerm) (asked : Row) {r : Result Found Refused} → entry ≡ known → r ≡ asked_at asked left → reading_of script table (asked_at asked left) ≡ asks known → reading_of script table r ≡ asks entry
-    by_row known asked q h f = ap (reading_of script table) h ∙ f ∙ ap asks (sym q)
-
     -- its row is told as an entry's
     pub by_entry : (known : NonTerm) {x : Reading} → entry ≡ known → x ≡ entry_row segwit known script table left → x ≡ asks entry
     unfolding entry_row
@@ -50,10 +45,6 @@ module _ (segwit : Bool) (script table : List ℕ) (left : ℕ) where
         ap (reading_of script table) h
         ∙ row_pick script table (within 1 k n) (row.Thresh k n) 13 left
         ∙ ap asks (sym q)
-
--- an entry that counts children
-pub counts : (entry : NonTerm) (k n : ℕ) → entry ≡ non-term.ThreshW k n → counted entry < 2147483648 → n < 2147483648
-counts entry k n q h = subst (λ (x : NonTerm). counted x < 2147483648) q h
 
 -- thresh's children
 module _ (segwit : Bool) (script table : List ℕ) (left k n : ℕ) where

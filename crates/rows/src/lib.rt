@@ -54,13 +54,11 @@ fn ends_and_v(code: u32) -> bool
 }
 
 // Whether an and_v goes on: no at the script's start and before If, NotIf, Else, ToAltStack, Swap, else yes.
+#[tactic(auto, using(crate::proofs::AndVLaws::ahead_none, crate::proofs::AndVLaws::told_ahead))]
 pub fn is_and_v(tokens: Tokens) -> bool
     ensures { ToldAndV tokens.entry result }
 {
-    let Some(code) = tokens.peek() else {
-        return false;
-    };
-    !ends_and_v(code)
+    tokens.peek().is_some_and(|code| !ends_and_v(code))
 }
 
 fn maybe_and_v(tokens: Tokens) -> Result<Found, Refused>
@@ -106,7 +104,8 @@ fn thresh_e(left: usize, k: u32, n: u32) -> Result<Found, Refused>
     ask(Row::Thresh { k, n }, left)
 }
 
-// The row of an entry.
+// The row of an entry. By table and number, as run has them; what holds of them is asked here once, and every row has it in
+// its type.
 pub fn row_of(
     segwit: bool,
     script: &[u8],

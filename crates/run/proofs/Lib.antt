@@ -3,3 +3,4 @@ pub mod StepLaws
 pub mod RunLaws
 pub mod SteppingLaws
 pub mod EndLaws
+pub mod CloseLaws

@@ -43,9 +43,6 @@ module _ (segwit : Bool) (script tokens nodes keys work : List ℕ) (s : State) 
     read_at : reading asked (lexemes_left script tokens left) ≡ reading_asked segwit (row_of segwit (entry_at work (s.work - 1)) (lexemes_left script tokens s.left))
     read_at = reads ∙ ap (λ (e : NonTerm). reading_asked segwit (row_of segwit (entry_of e) (lexemes_left script tokens s.left))) taken
 
-    pub ready_after : Ready s.nodes nodes asked
-    ready_after = subst (λ (r : Reading). ReadyReading s.nodes nodes r) (sym read_at) stepping.ready
-
     pub stepped : {nodes' keys' work' : List ℕ} {r : Step} → Performs tokens nodes keys work nodes' keys' work' (counts left (s.work - 1) s.nodes s.keys) asked r → Steps segwit script tokens nodes keys work nodes' keys' work' s r
     unfolding step_by
     stepped {nodes'} {keys'} {work'} {r} p =

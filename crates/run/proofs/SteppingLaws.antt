@@ -121,9 +121,6 @@ module _ (segwit : Bool) (script tokens : List ℕ) (count : ℕ) (limits : Limi
   unfolding view_of
   work_is = ap length (sym running.same.work) ∙ newest_length _ s.work
 
-  pub few_steps : count ≤ 33554432 → steps < 268435458
-  few_steps few = omega (arith, running.bounded.0)
-
   pub inside : count ≤ 33554432 → Inside nodes keys work s
   inside few =
       let p : pushes (lexemes_left script tokens count) ≤ count = omega (arith, pushes_le (lexemes_left script tokens count), newest_length (λ (i : ℕ). lexeme script (token_at tokens i)) count) in

@@ -75,6 +75,7 @@ fn counted(answer: Result<State, Stop>, s: State, steps: usize) -> Result<State,
 }
 
 // The work list is empty: 18 if tokens are left over, 19 if the tree's base is not B.
+#[tactic(auto, using(crate::proofs::CloseLaws::is_first))]
 fn close(nodes: &[u32], s: State, steps: usize) -> Result<Ran, Halted>
     requires { (1 ≤ s.nodes) × (9 * s.nodes ≤ length nodes.now) }
     ensures { result ≡ closes_with nodes.now s steps }
@@ -88,14 +89,15 @@ fn close(nodes: &[u32], s: State, steps: usize) -> Result<Ran, Halted>
         };
         return Err(Halted { stop, ran });
     }
-    if nodes[9 * (s.nodes - 1) + 5] != 1 {
+    if !judge::type_at(nodes, s.nodes - 1).base.is_b() {
         let stop = s.stop(19, 0);
         return Err(Halted { stop, ran });
     }
     Ok(ran)
 }
 
-// The rows, from the whole token list on. The node table and the key table are clear.
+// The rows, from the whole token list on. The node table and the key table are clear. The count stands
+// beside the table: the tokens are a part of it, but what lies behind them is cleared with it.
 pub fn run(
     segwit: bool,
     script: &[u8],
