@@ -14,7 +14,7 @@ returns-in-28 c = λ segwit script bytes. onward segwit _ script c.args.tokens.t
 pub returns-in_default : goal.returns-in_default
 returns-in_default c =
     λ segwit script bytes.
-      elim c.in_default.branch [
-        in_default-via-in-28+else-token-eq32 w ↦ other_number segwit _ script c.args.tokens.table.now c.args.tokens.left c.in_ok-token.ensures 32 _ w.in-28.is refl w.if-token-eq32.false c.refuse.ensures
+    elim c.in_default.branch [
+      | in_default-via-in-28+else-token-eq32 w ↦ other_number segwit _ script c.args.tokens.table.now c.args.tokens.left c.in_ok-token.ensures 32 _ w.in-28.is refl w.if-token-eq32.false c.refuse.ensures
       | in_default-via-in_default-1 w ↦ unfit segwit _ script c.args.tokens.table.now c.args.tokens.left c.in_ok-token.ensures tt refl w.in_default-1.rest c.refuse.ensures
-      ]
+    ]
