@@ -30,7 +30,8 @@ pub struct Part {
     n: usize,
 }
 
-// The input has ended, at a part of no byte: none was left, or the read failed. It holds the part, so that only this crate can make one.
+// The input has ended, at a part of no byte: none was left, or the read failed. It holds that part, and no other crate comes by a part of
+// no byte but in here: so no end can be made up.
 #[derive(Clone, Copy)]
 pub struct Ended {
     pub part: Part,
@@ -42,7 +43,8 @@ pub struct Wrote {
     n: usize,
 }
 
-// A write failed: it took no byte. It holds what the write took, so that only this crate can make one.
+// A write failed: it took no byte. It holds what the write took, and no other crate comes by a write of no byte but in here: so no failure
+// can be made up.
 #[derive(Clone, Copy)]
 pub struct Failed {
     pub wrote: Wrote,

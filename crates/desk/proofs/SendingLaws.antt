@@ -1,7 +1,7 @@
 -- Turn after turn of the clerk, each written and crossed off before the next: the line that the part leaves open stays the same, and so does what was written, with what waits and what is still owed. Assumes nothing.
 use mathlib.Core.Path.{◌≡◌, ap, subst, ◌∙◌}
 use mathlib.Core.List.{List, ◌++◌, append_assoc}
-use Prim.Native.Nat.{ℕ, ◌+◌, ◌≤◌}
+use Prim.Native.Nat.{ℕ, ◌≤◌}
 use lib.ListN.{take}
 use Rattle.hex_line.specs.Feeding.{Fed}
 use Rattle.clerk.specs.declared.Hand.{Hand}

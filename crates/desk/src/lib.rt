@@ -22,13 +22,13 @@
 //   in all                                  53,960, under 64 KiB (65,536)
 #![tactic(auto)]
 
-ghost use Rattle.std.specs.Prelude.{◌≡◌, ◌≤◌, ◌<◌, length};
+ghost use Rattle.std.specs.Prelude.{◌≡◌, ◌≤◌, ◌<◌, length, take};
 ghost use Rattle.hex_line.specs.Feeding.{fed, left_by};
 ghost use Rattle.clerk.specs.declared.Hand.{Hand};
 ghost use Rattle.clerk.specs.Owed.{leaves, laid};
 ghost use Rattle.desk.specs.Stops.{Sends, Stops};
 
-use calls::{Ended, Failed};
+use calls::{Ended, Failed, Part};
 use clerk::Hand;
 use hex_line::Line;
 use reply::Tables;
@@ -69,22 +69,26 @@ fn write_out(
     Ok(held)
 }
 
-// One part of the input, with the line that was open before it: answered and written. No bytes say that the input has ended.
+// One part of the input, with the line that was open before it: answered and written. A part of no byte says that the input has ended.
 fn answer_part(
     rt: HostRuntime,
     line: Line,
-    part: &[u8],
+    part: Part,
+    input: &[u8; 4096],
     script: &mut [u8; 520],
     tables: &mut Tables,
     out: &mut [u8; 8192],
 ) -> Result<Hand, Failed>
-    ensures { Sends result (λ (left : Hand). 0 < length part.now → fed left.line script.new ≡ left_by (fed line script.old) part.now) }
+    requires { (part.n ≤ 4096) × (part.n ≤ length input.now) }
+    ensures { Sends result (λ (left : Hand). 0 < part.n → fed left.line script.new ≡ left_by (fed line script.old) (take part.n input.now)) }
 {
-    let hand = clerk::receive(line, part.len(), script, tables);
-    write_out(rt, hand, part, script, tables, out)
+    let n = part.size();
+    let hand = clerk::receive(line, n, script, tables);
+    write_out(rt, hand, &input[..n], script, tables, out)
 }
 
-// Standard input, part by part to its end, with these tables.
+// Standard input, part by part to its end, with these tables. Its end is answered as a part is, at the same place: so that the last line
+// can't be left out alone.
 fn serve(
     rt: HostRuntime,
     script: &mut [u8; 520],
@@ -98,16 +102,16 @@ fn serve(
     let mut reads = calls::begin();
     // No for: it goes on until the input ends.
     loop {
-        match calls::next(rt, &mut reads, &mut input) {
-            Ok(part) => {
-                let left = answer_part(rt, line, &input[..part.size()], script, tables, out)?;
-                line = left.line;
-            }
-            Err(ended) => {
-                answer_part(rt, line, &[], script, tables, out)?;
-                return Ok(ended);
-            }
+        let read = calls::next(rt, &mut reads, &mut input);
+        let part = match read {
+            Ok(part) => part,
+            Err(ended) => ended.part,
+        };
+        let left = answer_part(rt, line, part, &input, script, tables, out)?;
+        if let Err(ended) = read {
+            return Ok(ended);
         }
+        line = left.line;
     }
 }
 
