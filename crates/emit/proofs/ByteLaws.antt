@@ -9,12 +9,13 @@ use native.Mathlib.Nat.{add-sub_cancel_left}
 use borrow.Rule.Slice.PartMut.{put_mid}
 use Rattle.std.specs.Int.{to_le_bytes}
 use Rattle.std.proofs.Common.{w32}
-use lib.ListN.{length, set, take, drop, length-drop}
+use lib.ListN.{length, set, get_or, take, drop, length-drop}
+use Rattle.std.proofs.lemmas.List.{take_more}
 use lib.Seq.{length-take-le, drop-drop}
 use borrow.Author.Tests.{eq-eqb, ne_eqb, le-leb, lt-leb, ltb-true}
 use Rattle.tables.specs.Choose.{pick}
 use Rattle.tables.specs.Tables.{put_next, put_at}
-use Rattle.tables.proofs.PutLaws.{put_parts}
+use Rattle.tables.proofs.PutLaws.{put_more, put_parts}
 use Rattle.spelling.specs.Spell.{push_bytes, digits, number_bytes}
 use Rattle.emit.specs.Emission.{digit_count, low_bytes}
 
@@ -38,6 +39,17 @@ put_as_part t at xs ys e h =
     ∙ ap (λ (l : List ℕ). take at t ++ (xs ++ l)) (drop-drop (length xs) at t)
     ∙ sym (append_assoc (take at t) xs (drop (at + length xs) t))
     ∙ sym (put_parts t at xs h)
+
+-- one byte more: before turn i the first i are written
+pub byte_more : (t : List ℕ) (at : ℕ) (bytes : List ℕ) {now : List ℕ} {i x : ℕ} → i < length bytes → now ≡ put_at t at (take i bytes) → x ≡ get_or bytes i 0
+    → set now (at + i) x ≡ put_at t at (take (i + 1) bytes)
+byte_more t at bytes {now} {i} h e v =
+    let l : length (take i bytes) ≡ i = length-take-le i bytes (omega arith) in
+    ap (set now (at + i)) v
+    ∙ ap (λ (w : List ℕ). set w (at + i) (get_or bytes i 0)) e
+    ∙ ap (λ (n : ℕ). set (put_at t at (take i bytes)) (at + n) (get_or bytes i 0)) (sym l)
+    ∙ put_more t at (take i bytes) (get_or bytes i 0)
+    ∙ ap (put_at t at) (sym (take_more bytes i 0 h))
 
 -- The lowest bytes
 

@@ -118,11 +118,16 @@ fn digit_count(n: u32) -> usize
 }
 
 // Bytes written from a place on.
+// Never inlined: of a number's digits, in an array at hand, the compiler would make a call of memcpy.
+#[inline(never)]
 fn put_bytes(out: &mut [u8], at: usize, bytes: &[u8])
     requires { at + length bytes.now ≤ length out.old }
     ensures { out.new ≡ put_at out.old at bytes.now }
 {
-    out[at..at + bytes.len()].copy_from_slice(bytes);
+    // No copy_from_slice, which calls memcpy: callers in C are promised that memset alone is called.
+    for (i, b) in bytes.iter().enumerate() {
+        out[at + i] = *b;
+    }
 }
 
 // The shortest way to push a number: 0 is an empty push, 1 to 16 have opcodes, any other is pushed by its digits.

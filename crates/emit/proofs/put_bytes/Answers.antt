@@ -1,6 +1,7 @@
 -- `emit::put_bytes` meets its contract.
-use Rattle.emit.proofs.ByteLaws.{put_as_part}
+use Rattle.std.proofs.Common.{refl}
+use Rattle.emit.proofs.ByteLaws.{byte_more}
 use Rattle.emit.proofs.put_bytes.Goals as goal
 
-pub returns : goal.returns
-returns c = put_as_part c.args.out.now c.args.at c.args.bytes.now c.copy_from_slice.new.self c.copy_from_slice.ensures.after c.requires
+pub loop-i-preserved : goal.loop-i-preserved
+loop-i-preserved c = byte_more c.args.out.now c.args.at c.args.bytes.now c.loop-i-test.true c.loop-i.invariant refl
