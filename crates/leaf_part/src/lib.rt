@@ -15,8 +15,11 @@ fn leaf_bytes(kind: u32, node: u32) -> usize
     match node {
         kind::PK_K => key_length(kind == 0) as usize,
         kind::RAW_PK_H => 20,
-        kind::SHA256 | kind::HASH256 => 32,
-        kind::RIPEMD160 | kind::HASH160 => 20,
+        // An arm a kind: of two in one the compiler makes tests one after the other, in place of one table.
+        kind::SHA256 => 32,
+        kind::HASH256 => 32,
+        kind::RIPEMD160 => 20,
+        kind::HASH160 => 20,
         _ => 0,
     }
 }

@@ -5,7 +5,8 @@ use mathlib.Core.List.{List, [], ◌∷◌, ◌++◌, map}
 use Prim.Native.Nat.{ℕ, ◌+◌, ◌-◌, ◌*◌, ◌/◌, ◌≤◌, ◌<◌}
 use native.Mathlib.Omega.{arith}
 use borrow.Author.Tests.{lt-leb}
-use lib.ListN.{length, drop, length-append, length-map}
+use lib.ListN.{length, take, drop, length-append, length-map, length-drop}
+use Rattle.std.proofs.lemmas.List.{take_all}
 use Rattle.tables.specs.Tables.{zeros, flat, Strided, put_at}
 use Rattle.tables.proofs.FlatLaws.{strided_map, append_entry}
 use Rattle.instruction.specs.declared.Error.{Error}
@@ -20,7 +21,7 @@ use Rattle.lex.specs.Script.{placed, Answer, refusal, script_limit, Outcome, tok
 use Rattle.lex.specs.Room.{Ample, sizes_for, room_for, room_of}
 use Rattle.lex.proofs.ScanLaws.{limit_low, limit_kept, limit_passed, Scan, begun, refuses, full_one, full_two, one_more, two_more, ended}
 
--- what `instruction_at` answers, read back
+-- an instruction with the place of its refusal, read back
 pub placed_ok : (at : ℕ) (x : Lexing) {r : Result Lexed Refused} {got : Lexed} → r ≡ placed at x → r ≡ Ok got → Ok got ≡ x
 placed_ok at (Ok y) {r} {got} p q = let z : got ≡ y = cc in ap Ok z
 placed_ok at (Err e) p q = let z : ◌≡◌ {A = ℕ} 0 1 = cc in absurd (omega arith)
@@ -28,6 +29,12 @@ placed_ok at (Err e) p q = let z : ◌≡◌ {A = ℕ} 0 1 = cc in absurd (omega
 pub placed_err : (at : ℕ) (x : Lexing) {r : Result Lexed Refused} {f : Refused} → r ≡ placed at x → r ≡ Err f → (k : Error) × (Err k ≡ x) × (f ≡ refusal (error_number k) at)
 placed_err at (Ok y) p q = let z : ◌≡◌ {A = ℕ} 0 1 = cc in absurd (omega arith)
 placed_err at (Err e) {r} {f} p q = let z : f ≡ record { number = error_number e; place = at } = cc in (e, refl, z)
+
+-- an instruction read off the rest of a script
+pub of_the_rest : (s : List ℕ) (at last : ℕ) {r : Lexing} → r ≡ instruction_of (take (length s - at) (drop at s)) last → r ≡ instruction_of (drop at s) last
+of_the_rest s at last e =
+    let l : length (drop at s) ≤ length s - at = omega (arith, length-drop at s) in
+    e ∙ ap (λ (rest : List ℕ). instruction_of rest last) (take_all (length s - at) (drop at s) l)
 
 -- three numbers a token
 pub tokens_strided : (ts : List Token) → Strided 3 (map numbers ts)

@@ -36,14 +36,6 @@ pub struct Sizes {
     pub work: usize,
 }
 
-// The instruction at `at`, after a token with the code `last`. A refusal has its place.
-fn instruction_at(s: &[u8], at: usize, last: u32) -> Result<Lexed, Refused>
-    requires { at ≤ length s.now }
-    ensures { result ≡ placed at (instruction_of (drop at s.now) last) }
-{
-    instruction(&s[at..], last).map_err(|error| refuse(error.number(), at))
-}
-
 // The n-th token of a table.
 fn put(t: &mut [u32], n: usize, code: u32, number: u32, place: u32)
     requires { 3 * n + 2 < length t.old }
@@ -65,7 +57,12 @@ fn fill(s: &[u8], t: &mut [u32]) -> Result<usize, Refused>
     let mut n = 0;
     let mut last: u32 = 0;
     while at < s.len() {
-        let got = instruction_at(s, at, last)?;
+        // No `?`, here and in `room`: a refusal gets its place, and by map_err each token would go through memory once more, a third
+        // of what `room` takes.
+        let got = match instruction(&s[at..], last) {
+            Ok(got) => got,
+            Err(error) => return Err(refuse(error.number(), at)),
+        };
         match got {
             Lexed::One { code, size, number } => {
                 if room - n < 1 {
@@ -118,7 +115,10 @@ pub fn room(s: &[u8]) -> Result<Sizes, Refused>
     let mut n = 0;
     let mut last: u32 = 0;
     while at < s.len() {
-        let got = instruction_at(s, at, last)?;
+        let got = match instruction(&s[at..], last) {
+            Ok(got) => got,
+            Err(error) => return Err(refuse(error.number(), at)),
+        };
         match got {
             Lexed::One { code, size, .. } => {
                 last = code;
