@@ -2,14 +2,16 @@
 -- Why: before turn i the offsets of the first i tokens are written, and the next token is the one that the loop has reached.
 use mathlib.Core.Path.{◌≡◌, refl, sym, ap, ◌∙◌}
 use mathlib.Core.List.{List, [], ◌∷◌, ◌++◌}
-use Prim.Native.Nat.{min, ℕ, zero, suc, ◌+◌, ◌*◌, ◌/◌, ◌%◌, ◌≤◌, ◌<◌}
+use Prim.Native.Nat.{min, ℕ, zero, suc, ◌+◌, ◌-◌, ◌*◌, ◌/◌, ◌%◌, ◌≤◌, ◌<◌}
 use mathlib.Core.Logic.{⊎_elim, inl, inr}
 use native.Mathlib.Nat.{eq-or-lt_of_le, mul-zero, mul-suc, div-add-mod', mod-lt}
 use native.Mathlib.Omega.{arith}
-use lib.ListN.{length, set, length-set, get_or-eq_default}
-use Rattle.tables.specs.Tables.{put_at}
+use lib.ListN.{length, set, length-set, length-append, length-replicate, get_or-eq_default}
+use Rattle.tables.specs.Tables.{zeros, put_at}
 use Rattle.tables.proofs.PutLaws.{put_more}
+use Rattle.tables.proofs.FlatLaws.{append_numbers}
 use Rattle.row.specs.Request.{offsets_from}
+use Rattle.node_store.specs.Stored.{keys_in}
 use Rattle.node_store.specs.Offsets.{offset_at, SameToken}
 
 -- Offsets
@@ -80,3 +82,17 @@ module _ {table before : List ℕ} {from n first stride : ℕ} where
               ∙ ap (put_at before from) (offsets_more table i first stride)
               ∙ ap (λ (k : ℕ). put_at before from (offsets_from table k first stride)) s;
         }
+
+-- The key table
+
+pub keys_none : (size : ℕ) → keys_in size [] ≡ zeros size
+keys_none size = let e : size - 0 ≡ size = omega arith in ap zeros e
+
+pub keys_length : (size : ℕ) (keys : List ℕ) → length keys ≤ size → length (keys_in size keys) ≡ size
+keys_length size keys h = length-append keys (zeros (size - length keys)) ∙ omega (arith, length-replicate {A = ℕ} (size - length keys) 0)
+
+-- more keys behind those that stand there
+pub copied : (size : ℕ) (keys more : List ℕ) → length keys + length more ≤ size → put_at (keys_in size keys) (length keys) more ≡ keys_in size (keys ++ more)
+copied size keys more h =
+    let e : size - length keys - length more ≡ size - length (keys ++ more) = omega (arith, length-append keys more) in
+    append_numbers keys more (size - length keys) (omega arith) ∙ ap (λ (k : ℕ). keys ++ more ++ zeros k) e

@@ -2,3 +2,4 @@
 pub mod LookLaws
 pub mod StartLaws
 pub mod TakenLaws
+pub mod NextLaws

@@ -8,7 +8,7 @@ use lib.ListN.{length, get_or, set, take, length-map, get_or-map}
 use Rattle.std.proofs.lemmas.List.{length-take-le, map-append, take_more}
 use Rattle.tables.specs.Tables.{put_at}
 use Rattle.tables.proofs.PutLaws.{put_inside, put_before, put_more}
-use Rattle.tables.proofs.NewestLaws.{newest_grown, newest_pop}
+use Rattle.tables.proofs.NewestLaws.{newest_same, newest_grown, newest_pop}
 use Rattle.row.specs.declared.NonTerm.{NonTerm}
 use Rattle.row.specs.declared.NonTerm.TheVariants.{Expression}
 use Rattle.row.specs.Request.{entry_of}
@@ -64,3 +64,6 @@ pub taken : (work : List ℕ) (w : ℕ) → 1 ≤ w → work_of work w ≡ entry
 taken work w h = newest_pop (entry_at work) w h
 
 -- What lies at w or above
+
+pub same_below : (work other : List ℕ) (w : ℕ) → ((i : ℕ) → i < w → get_or other i 0 ≡ get_or work i 0) → work_of other w ≡ work_of work w
+same_below work other w e = newest_same (entry_at work) (entry_at other) w (λ i h. ap (λ (number : ℕ). entry_of (unpacked number)) (e i h))
