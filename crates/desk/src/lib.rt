@@ -87,8 +87,8 @@ fn answer_part(
     write_out(rt, hand, &input[..n], script, tables, out)
 }
 
-// Standard input, part by part to its end, with these tables. Its end is answered as a part is, at the same place: so that the last line
-// can't be left out alone.
+// Standard input, part by part to its end, with these tables. Its end is answered by the same call as a part, so that the call can't be
+// dropped for the last line alone. That the end is answered before the desk stops no contract says: the stored list of `intake` does.
 fn serve(
     rt: HostRuntime,
     script: &mut [u8; 520],

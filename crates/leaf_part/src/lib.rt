@@ -15,7 +15,7 @@ fn leaf_bytes(kind: u32, node: u32) -> usize
     match node {
         kind::PK_K => key_length(kind == 0) as usize,
         kind::RAW_PK_H => 20,
-        // An arm a kind: of two in one the compiler makes tests one after the other, in place of one table.
+        // An arm a kind: two kinds in one arm are tested one after the other, which took 1.7 times as long (docs/LOOK-BACK.md).
         kind::SHA256 => 32,
         kind::HASH256 => 32,
         kind::RIPEMD160 => 20,
