@@ -57,8 +57,8 @@ fn fill(s: &[u8], t: &mut [u32]) -> Result<usize, Refused>
     let mut n = 0;
     let mut last: u32 = 0;
     while at < s.len() {
-        // No `?`, here and in `room`: a refusal gets its place, and by map_err each token would go through memory once more, a third
-        // of what `room` takes.
+        // No `?`, here and in `room`: a refusal gets its place, and by map_err each token would go through memory once more, a tenth
+        // of `room`'s time.
         let got = match instruction(&s[at..], last) {
             Ok(got) => got,
             Err(error) => return Err(refuse(error.number(), at)),
